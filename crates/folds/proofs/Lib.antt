@@ -1,0 +1,6 @@
+pub mod Cases
+pub mod Sums
+pub mod Searches
+pub mod Lists
+pub mod Loops
+pub mod Slices
