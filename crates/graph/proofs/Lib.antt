@@ -1,0 +1,4 @@
+pub mod Walks
+pub mod Edges
+pub mod Rungs
+pub mod Links

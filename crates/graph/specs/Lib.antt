@@ -1,0 +1,5 @@
+pub mod Walk
+pub mod Graph
+pub mod Rung
+pub mod Rows
+pub mod Links

@@ -1,0 +1,24 @@
+-- The rows of a hierarchy, whoever made them: what the layers above joining may know of them.
+use Prim.Native.Nat.{ℕ, suc, _<_, _≤_}
+use mathlib.Core.Path.{_≡_}
+use mathlib.Core.List.{List}
+use lib.ListN.{length, getD}
+use Rattle.folds.specs.Fold.{maxTo}
+use Rattle.graph.specs.Walk.{Acyclic}
+use Rattle.graph.specs.Graph.{Graph, vertices, seen, Edge, identity, RowOf}
+
+-- how many clusters a row has: groups are numbered from 0
+unfoldable pub clusters : List ℕ → ℕ
+clusters row = maxTo (length row) (λ v. suc (getD row v 0))
+
+-- document 01: the ladder's rows 0 to top, the kept rungs
+pub record Hierarchy (G : Graph) (rows : ℕ → List ℕ) (top : ℕ) : Type 0 where
+  -- rung 0 is the blocks
+  pub bottom : rows 0 ≡ identity (vertices G)
+  -- each row gives each vertex a cluster, and no cluster is empty
+  pub row : (r : ℕ) → r ≤ top → RowOf G (rows r) (clusters (rows r))
+  pub onto : (r : ℕ) → r ≤ top → (c : ℕ) → c < clusters (rows r) → (v : ℕ) × (v < vertices G) × (getD (rows r) v 0 ≡ c)
+  -- the clusters of a row form no cycle
+  pub acyclic : (r : ℕ) → r ≤ top → Acyclic (Edge (seen G (rows r)))
+  -- what a row joins, the row above joins
+  pub refines : (r : ℕ) → r < top → (a b : ℕ) → a < vertices G → b < vertices G → getD (rows r) a 0 ≡ getD (rows r) b 0 → getD (rows (suc r)) a 0 ≡ getD (rows (suc r)) b 0

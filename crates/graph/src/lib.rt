@@ -1,0 +1,1 @@
+// Graphs, rows and tables; edges in lists by key.

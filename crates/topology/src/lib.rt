@@ -1,0 +1,1 @@
+// Topological order, levels, and the lowest on a cycle.
