@@ -3,7 +3,7 @@ use Prim.Native.Nat.{ℕ, _+_, _≤_, _<_}
 use mathlib.Core.Path.{_≡_}
 use mathlib.Core.List.{List}
 use lib.ListN.{length, getD}
-use Rattle.graph.specs.Graph.{via}
+use Rattle.graph.specs.Graph.{via, Arcs, crossing}
 
 -- to is the least edge from `from` on with the key a, or m
 pub record Hop (key : ℕ → ℕ) (m a from to : ℕ) : Type 0 where
@@ -36,3 +36,8 @@ pub record Joins (row starts ends : List ℕ) : Type 0 where
 pub record Cluster (row ends : List ℕ) (j r : ℕ) : Type 0 where
   pub is : r ≡ via row ends j
   pub low : r < 512
+
+-- r is what edge j adds to the cut
+pub record Crossing (A : Arcs) (widths : List ℕ) (j r : ℕ) : Type 0 where
+  pub is : r ≡ crossing A widths j
+  pub low : r < 65536

@@ -1,1 +1,62 @@
-// Graphs, rows and tables; edges in lists by key.
+// Graphs, rows and tables: clusters at the ends of edges, edges in lists by key, the cut of a table.
+ghost use mathlib.Core.Path.{_≡_};
+ghost use Prim.Native.Nat.{_<_};
+ghost use lib.ListN.{length};
+ghost use Rattle.graph.specs.Graph.{via, arcs, cut};
+ghost use Rattle.graph.specs.Links.{Linked, Ends, Joins, Cluster, Crossing};
+
+// The cluster at which edge j has its end.
+pub fn cluster(row: &[u16], ends: &[u16], j: usize) -> usize
+    requires { ⌜ Ends (now row) (now ends) ⌝ }
+    requires { ⌜ j < length (now ends) ⌝ }
+    ensures { λ r. ⌜ Cluster (now (row .entry)) (now (ends .entry)) j r ⌝ }
+{
+    let v = folds::at16(ends, j);
+    folds::at16(row, v)
+}
+
+// Fills the lists of the edges by the cluster of their end, from the last edge down.
+pub fn fill(row: &[u16], ends: &[u16], head: &mut [u16; 512], next: &mut [u16; 1024])
+    requires { ⌜ Ends (now row) (now ends) ⌝ }
+    requires { ⌜ length (now next) ≡ 1024 ⌝ }
+    ensures { λ _. ⌜ Linked (via (now (row .entry)) (now (ends .entry))) (length (now (ends .entry))) (now (head .exit)) (now (next .exit)) ⌝ }
+{
+    let m = ends.len();
+    *head = [m as u16; 512];
+    let mut j: usize = m;
+    while j > 0 {
+        j -= 1;
+        let a = cluster(row, ends, j);
+        next[j] = head[a];
+        head[a] = j as u16;
+    }
+}
+
+// The width of edge j where its ends lie in different parts, else 0.
+fn crossing(parts: &[u16], starts: &[u16], ends: &[u16], widths: &[u16], j: usize) -> u32
+    requires { ⌜ Joins (now parts) (now starts) (now ends) ⌝ }
+    requires { ⌜ (j < length (now starts)) × (length (now widths) ≡ length (now starts)) ⌝ }
+    ensures { λ r. ⌜ Crossing (arcs (now (parts .entry)) (now (starts .entry)) (now (ends .entry))) (now (widths .entry)) j r ⌝ }
+{
+    let a = cluster(parts, starts, j);
+    let b = cluster(parts, ends, j);
+    if a == b {
+        return 0;
+    }
+    widths[j] as u32
+}
+
+// The cut of a table.
+pub fn cut_of(parts: &[u16], starts: &[u16], ends: &[u16], widths: &[u16]) -> u32
+    requires { ⌜ Joins (now parts) (now starts) (now ends) ⌝ }
+    requires { ⌜ length (now widths) ≡ length (now starts) ⌝ }
+    ensures { λ r. ⌜ r ≡ cut (arcs (now (parts .entry)) (now (starts .entry)) (now (ends .entry))) (now (widths .entry)) ⌝ }
+{
+    let mut sum: u32 = 0;
+    let mut j: usize = 0;
+    while j < starts.len() {
+        sum += crossing(parts, starts, ends, widths, j);
+        j += 1;
+    }
+    sum
+}
