@@ -1,3 +1,4 @@
 pub mod Order
+pub mod Counts
 pub mod Level
 pub mod Reach

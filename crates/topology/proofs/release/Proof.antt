@@ -1,0 +1,49 @@
+use Rattle.topology.proofs.Waiting.{released-none, released-room, released-turn}
+use Rattle.topology.specs.Counts.{Released}
+use Rattle.graph.proofs.Links.{On, walk-on, walk-next, walk-less, on-end}
+use Rattle.graph.specs.Graph.{via, arcs}
+use lib.ListN.{length}
+use native.Mathlib.Omega.{arith}
+use mathlib.Core.Path.{_≡_, refl, sym, _∙_}
+use Prim.Native.Nat.{ℕ, _≤_, _<_, _-_, _+_}
+use borrow.Author.Needs.{needs}
+use Rattle.topology.proofs.release.Statement.{statement}
+use Rattle.topology.proofs.release.Tie as tie
+
+abbrev Inv-loop : tie.InvT-loop
+Inv-loop row starts ends head next u count₀ m lo₀ j₀ count lo j = (m ≡ length starts) × On (via row starts) m u j × Released (arcs row starts ends) u j count₀ u count lo
+
+abbrev μ-loop : tie.MeasureT-loop
+μ-loop row starts ends head next u count₀ m lo₀ j₀ count lo j = m - j
+
+pub release-spec : {M : Type 1} → statement M
+release-spec =
+    tie.close
+    (tie.spec Inv-loop μ-loop
+    (λ c. search needs)
+    (λ c. search needs)
+    (λ c κs. search needs)
+    (λ c. let p = c .before .before .before .before .before .pre in
+    (refl, rw (c .wide .ensures) (walk-on (p .1 .0) _ (p .1 .1 .0)), rw (c .wide .ensures) (released-none _ (p .1 .0) _ _ _ (p .1 .1 .0) (p .1 .1 .1 .0))))
+    (λ c κs. search needs)
+    (λ c κs. search needs)
+    (λ c. search needs)
+    (λ c. search needs)
+    (λ c. let p = c .before .before .before .before .before .before .before .before .before .before .pre in
+    let l = c .before .before .before .before .loop in
+    released-room _ (p .1 .0) _ _ _ _ _ _ _ _ (p .1 .1 .1 .1) (l .inv .1) (c .before .before .before .loop-test .taken) (c .before .before .cluster .ensures .is) (c .before .before .cluster .ensures .low) (c .before .across .ensures) (l .inv .2))
+    (λ c. search needs)
+    (λ c. search needs)
+    (λ c κs. search needs)
+    (λ c. search needs)
+    (λ c. search needs)
+    (λ c κs. search needs)
+    (λ c. omega (arith, c .wide2 .ensures, walk-less (c .before .before .before .before .before .before .before .before .before .before .before .before .before .pre .1 .0) (c .before .before .before .before .before .before .before .loop .j) (c .before .before .before .before .before .before .loop-test .taken)))
+    (λ c. let p = c .before .before .before .before .before .before .before .before .before .before .before .before .before .pre in
+    let l = c .before .before .before .before .before .before .before .loop in
+    let t = c .before .before .before .before .before .before .loop-test .taken in
+    let k = c .before .before .before .before .before .cluster .ensures in
+    let a = c .before .before .before .before .across .ensures in
+    let room = released-room _ (p .1 .0) _ _ _ (l .j) _ _ _ _ (p .1 .1 .1 .1) (l .inv .1) t (k .is) (k .low) a (l .inv .2) in
+    (refl, rw (c .wide2 .ensures) (walk-next (p .1 .0) _ _ (l .inv .1) t), rw (c .wide2 .ensures) (released-turn _ (p .1 .0) _ _ _ (l .j) _ _ (l .lo) _ (l .count) (l .inv .1) t (k .is) (k .low) a room (c .before .before .lower .ensures) (l .inv .2))))
+    (λ c. let l = c .before .loop in rw (on-end (l .inv .1) (c .loop-test .left)) at (l .inv .2)))
