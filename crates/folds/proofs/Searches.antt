@@ -73,6 +73,12 @@ firstTo-below (suc n) p k l = go (firstTo-below n p k) (eqb (firstTo n p) n) (p 
     go ih true false e h l = either (last-or l) (λ q. rw q h) (λ q. ih (omega (arith, eqb-true (firstTo n p) n e)))
     go ih false u e h l = ih l
 
+-- at most any that passes
+pub firstTo-least : (n : ℕ) (p : ℕ → Bool) (k : ℕ) → p k ≡ true → firstTo n p ≤ k
+firstTo-least n p k t =
+    by (ltb k (firstTo n p)) (λ e. absurd (no-bool (sym (firstTo-below n p k (ltb-true k (firstTo n p) e)) ∙ t)))
+    (λ e. ltb-false k (firstTo n p) e)
+
 pub firstTo-none : (n : ℕ) (p : ℕ → Bool) → firstTo n p ≡ n → (k : ℕ) → k < n → p k ≡ false
 firstTo-none n p e k l = firstTo-below n p k (omega arith)
 

@@ -94,6 +94,15 @@ unfolding countTo sumTo
 countTo-le zero p = omega arith
 countTo-le (suc n) p = omega (arith, countTo-le n p, when-le (p n) 1)
 
+pub countTo-all : (n : ℕ) (p : ℕ → Bool) → ((k : ℕ) → k < n → p k ≡ true) → countTo n p ≡ n
+unfolding countTo sumTo
+countTo-all zero p h = refl
+countTo-all (suc n) p h = rw (countTo-all n p (λ k l. h k (omega arith)), h n (omega arith)) (omega arith)
+
+pub countTo-ext : (n : ℕ) (p q : ℕ → Bool) → ((k : ℕ) → k < n → p k ≡ q k) → countTo n p ≡ countTo n q
+unfolding countTo
+countTo-ext n p q h = sumTo-ext n _ _ (λ k l. rw (h k l))
+
 pub countTo-step : (i : ℕ) (p : ℕ → Bool) → countTo (i + 1) p ≡ countTo i p + when (p i) 1
 unfolding countTo
 countTo-step i p = sumTo-step i _
