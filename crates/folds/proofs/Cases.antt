@@ -112,3 +112,7 @@ when-le false w = omega arith
 pub when-zero : (t : Bool) → when t 0 ≡ 0
 when-zero true = refl
 when-zero false = refl
+
+pub when-more : (a b : Bool) (w : ℕ) → (a ≡ true → b ≡ true) → when a w ≤ when b w
+when-more true b w h = rw (h refl) (omega arith)
+when-more false b w h = omega arith
