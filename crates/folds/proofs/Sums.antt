@@ -99,6 +99,10 @@ unfolding countTo sumTo
 countTo-all zero p h = refl
 countTo-all (suc n) p h = rw (countTo-all n p (λ k l. h k (omega arith)), h n (omega arith)) (omega arith)
 
+pub countTo-zero : (n : ℕ) (p : ℕ → Bool) → ((k : ℕ) → k < n → p k ≡ false) → countTo n p ≡ 0
+unfolding countTo
+countTo-zero n p h = sumTo-none n _ (λ k l. rw (h k l))
+
 pub countTo-ext : (n : ℕ) (p q : ℕ → Bool) → ((k : ℕ) → k < n → p k ≡ q k) → countTo n p ≡ countTo n q
 unfolding countTo
 countTo-ext n p q h = sumTo-ext n _ _ (λ k l. rw (h k l))

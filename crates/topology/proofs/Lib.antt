@@ -1,3 +1,4 @@
 pub mod Waiting
 pub mod Orders
 pub mod Reaches
+pub mod Searching

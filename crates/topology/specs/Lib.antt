@@ -2,3 +2,4 @@ pub mod Order
 pub mod Counts
 pub mod Level
 pub mod Reach
+pub mod Search

@@ -1,11 +1,16 @@
 // Topological order of clusters or parts, and the lowest on a cycle.
 ghost use mathlib.Core.Path.{_≡_};
+ghost use mathlib.Core.Bool.{true};
+ghost use mathlib.Core.Logic.{_⊎_};
 ghost use Prim.Native.Nat.{ℕ, _+_, _<_, _≤_};
 ghost use lib.ListN.{length, getD};
 ghost use Rattle.folds.specs.Fold.{sumTo, firstTo, over, zeros};
-ghost use Rattle.graph.specs.Graph.{via, arcs};
+ghost use Rattle.graph.specs.Walk.{Walk};
+ghost use Rattle.graph.specs.Graph.{via, arcs, Edge, Inside};
 ghost use Rattle.graph.specs.Links.{Linked, Joins};
 ghost use Rattle.topology.specs.Order.{orderOf};
+ghost use Rattle.topology.specs.Reach.{onCycle, lowestOnCycle};
+ghost use Rattle.topology.specs.Search.{marked, Queued, Spread, Entered};
 ghost use Rattle.topology.specs.Counts.{gone, Counted, Released, Across, free, Lowered};
 
 // 1 where edge j goes from one cluster to another, else 0.
@@ -119,4 +124,81 @@ pub fn order(row: &[u16], starts: &[u16], ends: &[u16], g: usize, out: &mut [u16
         n += 1;
     }
     n
+}
+
+// Marks b and puts it into the queue, unless it is u or marked already. Answers how many the queue then holds.
+fn enter(row: &[u16], starts: &[u16], ends: &[u16], v: usize, u: usize, b: usize, marks: &mut [u8; 512], queue: &mut [u16; 512], n: usize) -> usize
+    requires { ⌜ Queued (arcs (now row) (now starts) (now ends)) v (now marks) (now queue) n ⌝ }
+    requires { ⌜ b < 512 ⌝ }
+    requires { ⌜ ((b ≡ u → ⊥) → Walk (Edge (arcs (now row) (now starts) (now ends))) v b) ⌝ }
+    ensures { λ r. ⌜ Entered (arcs (now (row .entry)) (now (starts .entry)) (now (ends .entry))) v u b (now (marks .entry)) (now (queue .entry)) n (now (marks .exit)) (now (queue .exit)) r ⌝ }
+{
+    if b == u {
+        return n;
+    }
+    if marks[b] != 0 {
+        return n;
+    }
+    marks[b] = 1;
+    queue[n] = b as u16;
+    n + 1
+}
+
+// Enters what the edges from u go to.
+fn spread(row: &[u16], starts: &[u16], ends: &[u16], head: &[u16; 512], next: &[u16; 1024], v: usize, u: usize, marks: &mut [u8; 512], queue: &mut [u16; 512], n: usize) -> usize
+    requires { ⌜ Joins (now row) (now starts) (now ends) ⌝ }
+    requires { ⌜ Linked (via (now row) (now starts)) (length (now starts)) (now head) (now next) ⌝ }
+    requires { ⌜ Queued (arcs (now row) (now starts) (now ends)) v (now marks) (now queue) n ⌝ }
+    requires { ⌜ (u < 512) × ((u ≡ v) ⊎ (marked (now marks) u ≡ true)) ⌝ }
+    ensures { λ r. ⌜ Spread (arcs (now (row .entry)) (now (starts .entry)) (now (ends .entry))) v u (length (now (starts .entry))) (now (marks .entry)) (now (queue .entry)) n (now (marks .exit)) (now (queue .exit)) r ⌝ }
+{
+    let m = starts.len();
+    let mut count = n;
+    let mut j = folds::wide(head[u]);
+    while j < m {
+        let b = graph::cluster(row, ends, j);
+        count = enter(row, starts, ends, v, u, b, marks, queue, count);
+        j = folds::wide(next[j]);
+    }
+    count
+}
+
+// Whether a walk from v comes back to it.
+fn returns_to(row: &[u16], starts: &[u16], ends: &[u16], head: &[u16; 512], next: &[u16; 1024], g: usize, v: usize) -> bool
+    requires { ⌜ Joins (now row) (now starts) (now ends) ⌝ }
+    requires { ⌜ Linked (via (now row) (now starts)) (length (now starts)) (now head) (now next) ⌝ }
+    requires { ⌜ Inside (arcs (now row) (now starts) (now ends)) g ⌝ }
+    requires { ⌜ v < 512 ⌝ }
+    ensures { λ r. ⌜ r ≡ onCycle (arcs (now (row .entry)) (now (starts .entry)) (now (ends .entry))) g v ⌝ }
+{
+    let mut marks = [0u8; 512];
+    let mut queue = [0u16; 512];
+    let mut count = spread(row, starts, ends, head, next, v, v, &mut marks, &mut queue, 0);
+    let mut i: usize = 0;
+    while i < count {
+        let u = folds::wide(queue[i]);
+        count = spread(row, starts, ends, head, next, v, u, &mut marks, &mut queue, count);
+        i += 1;
+    }
+    marks[v] != 0
+}
+
+// The lowest of g clusters that lies on a cycle, or g.
+pub fn lowest_on_cycle(row: &[u16], starts: &[u16], ends: &[u16], g: usize) -> usize
+    requires { ⌜ Joins (now row) (now starts) (now ends) ⌝ }
+    requires { ⌜ Inside (arcs (now row) (now starts) (now ends)) g ⌝ }
+    requires { ⌜ g ≤ 512 ⌝ }
+    ensures { λ r. ⌜ r ≡ lowestOnCycle (arcs (now (row .entry)) (now (starts .entry)) (now (ends .entry))) g ⌝ }
+{
+    let mut head = [0u16; 512];
+    let mut next = [0u16; 1024];
+    graph::fill(row, starts, &mut head, &mut next);
+    let mut v: usize = 0;
+    while v < g {
+        if returns_to(row, starts, ends, &head, &next, g, v) {
+            return v;
+        }
+        v += 1;
+    }
+    v
 }
