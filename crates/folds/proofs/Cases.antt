@@ -50,6 +50,14 @@ pub or-r : (a b : Bool) → b ≡ true → (a || b) ≡ true
 or-r true b p = refl
 or-r false b p = p
 
+pub and-false : (t : Bool) → (t && false) ≡ false
+and-false true = refl
+and-false false = refl
+
+pub and-true : (t : Bool) → (t && true) ≡ t
+and-true true = refl
+and-true false = refl
+
 pub not-yes : (a : Bool) → not a ≡ true → a ≡ false
 not-yes true e = absurd (no-bool e)
 not-yes false e = refl
@@ -89,13 +97,31 @@ yes-and a b z h e = rw h e
 pub no-and : (a b z : Bool) → a ≡ false → false ≡ z → (a && b) ≡ z
 no-and a b z h e = rw h e
 
+pub or-yes : (a b z : Bool) → a ≡ true → z ≡ true → z ≡ (a || b)
+or-yes a b z h e = rw h e
+
+pub or-no : (a b z : Bool) → a ≡ false → z ≡ b → z ≡ (a || b)
+or-no a b z h e = rw h e
+
+pub yes-or : (a b z : Bool) → a ≡ true → true ≡ z → (a || b) ≡ z
+yes-or a b z h e = rw h e
+
+pub no-or : (a b z : Bool) → a ≡ false → b ≡ z → (a || b) ≡ z
+no-or a b z h e = rw h e
+
+pub when-yes : (t : Bool) (w z : ℕ) → t ≡ true → z ≡ w → z ≡ when t w
+when-yes t w z h e = rw h e
+
+pub when-no : (t : Bool) (w z : ℕ) → t ≡ false → z ≡ 0 → z ≡ when t w
+when-no t w z h e = rw h e
+
 pub yes-not : (a z : Bool) → a ≡ true → false ≡ z → not a ≡ z
 yes-not a z h e = rw h e
 
 pub no-not : (a z : Bool) → a ≡ false → true ≡ z → not a ≡ z
 no-not a z h e = rw h e
 
-pub ruleset cases = (pick-yes, pick-no, yes-pick, no-pick, and-yes, and-no, yes-and, no-and, yes-not, no-not, eq-eqb, ne-eqb, lt-ltb, le-ltb, le-leb, lt-leb)
+pub ruleset cases = (pick-yes, pick-no, yes-pick, no-pick, and-yes, and-no, yes-and, no-and, or-yes, or-no, yes-or, no-or, when-yes, when-no, yes-not, no-not, eq-eqb, ne-eqb, lt-ltb, le-ltb, le-leb, lt-leb)
 
 pub pick-same : {A : Type 0} (t : Bool) (x : A) → x ≡ pick t x x
 pick-same true x = refl
@@ -116,3 +142,12 @@ when-zero false = refl
 pub when-more : (a b : Bool) (w : ℕ) → (a ≡ true → b ≡ true) → when a w ≤ when b w
 when-more true b w h = rw (h refl) (omega arith)
 when-more false b w h = omega arith
+
+-- a mark of 1 or 0, read back
+pub mark-yes : {t : Bool} {x : ℕ} → x ≡ when t 1 → (x ≡ 0 → ⊥) → t ≡ true
+mark-yes {t = true} e n = refl
+mark-yes {t = false} e n = absurd (n e)
+
+pub mark-no : {t : Bool} {x : ℕ} → x ≡ when t 1 → x ≡ 0 → t ≡ false
+mark-no {t = true} e z = absurd (omega arith)
+mark-no {t = false} e z = refl

@@ -1,7 +1,7 @@
 -- Laws of bounded searches and maxima, at the code's i + 1.
 use Prim.Native.Nat.{ℕ, zero, suc, _+_, _≤_, _<_, max}
 use mathlib.Core.Path.{_≡_, refl, sym, ap, subst, _∙_}
-use mathlib.Core.Bool.{Bool, true, false, not}
+use mathlib.Core.Bool.{Bool, true, false, not, _||_}
 use mathlib.Core.Logic.{⊎-elim, _⊎_, inl, inr}
 use native.Mathlib.Nat.{not-suc-le-zero, le-of-suc-le-suc, eq-or-lt-of-le}
 use native.Mathlib.Numerals.{add-one}
@@ -9,7 +9,7 @@ use native.Mathlib.Omega.{arith}
 use lib.Dec.{ltb, eqb}
 use borrow.Author.Tests.{eqb-true, eqb-false, ltb-true, ltb-false, eq-eqb, ne-eqb, lt-ltb, le-ltb}
 use Rattle.folds.specs.Fold.{pick, when, sumTo, countTo, maxTo, sought, firstTo, anyTo, allTo}
-use Rattle.folds.proofs.Cases.{no-bool, by, either, eq-or-ne, last-or, not-no}
+use Rattle.folds.proofs.Cases.{no-bool, by, either, eq-or-ne, last-or, not-no, one-of, or-l, or-r, same-test}
 use Rattle.folds.proofs.Sums.{sumTo-zero, sumTo-member, sumTo-none}
 
 pub firstTo-zero : (p : ℕ → Bool) → firstTo 0 p ≡ 0
@@ -128,6 +128,23 @@ any-none n p e k l = firstTo-below n p k (omega (arith, ltb-false (firstTo n p) 
 pub any-ext : (n : ℕ) (p q : ℕ → Bool) → ((k : ℕ) → k < n → p k ≡ q k) → anyTo n p ≡ anyTo n q
 unfolding anyTo
 any-ext n p q h = rw (firstTo-ext n p q h)
+
+pub any-step : (i : ℕ) (p : ℕ → Bool) → anyTo (i + 1) p ≡ (anyTo i p || p i)
+any-step i p =
+    same-test _ _
+    (λ t. let (k, l, e) = any-e (i + 1) p t in either (eq-or-ne k i) (λ q. or-r (anyTo i p) (p i) (rw q at e)) (λ n. or-l (anyTo i p) (p i) (any-i i p k (omega arith) e)))
+    (λ t. either (one-of (anyTo i p) (p i) t) (λ a. let (k, l, e) = any-e i p a in any-i (i + 1) p k (omega arith) e) (λ e. any-i (i + 1) p i (omega arith) e))
+
+pub any-zero : (p : ℕ → Bool) → anyTo 0 p ≡ false
+unfolding anyTo firstTo
+any-zero p = refl
+
+-- numbers that fail do not count
+pub any-skip : (p : ℕ → Bool) (j h : ℕ) → j ≤ h → ((i : ℕ) → j ≤ i → i < h → p i ≡ false) → anyTo h p ≡ anyTo j p
+any-skip p j h l z =
+    same-test _ _
+    (λ t. let (k, lk, e) = any-e h p t in by (ltb k j) (λ q. any-i j p k (ltb-true k j q) e) (λ q. absurd (no-bool (sym (z k (ltb-false k j q) lk) ∙ e))))
+    (λ t. let (k, lk, e) = any-e j p t in any-i h p k (omega arith) e)
 
 pub all-i : (n : ℕ) (p : ℕ → Bool) → ((k : ℕ) → k < n → p k ≡ true) → allTo n p ≡ true
 unfolding allTo

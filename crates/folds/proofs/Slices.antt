@@ -79,3 +79,7 @@ length-put l a p h = simp (length-append, length-take, length-drop) (omega arith
 pub length-part : (l : List ℕ) (a n : ℕ) → a + n ≤ length l → length (part l a n) ≡ n
 unfolding part
 length-part l a n h = simp (length-take, length-drop) (omega arith)
+
+-- the same at an index that is n
+pub filled-at : {l₀ l : List ℕ} {i n : ℕ} {f : ℕ → ℕ} → Filled l₀ l i f → i ≡ n → l ≡ over (listTo n f) l₀
+filled-at w e = filled-end (rw e at w)

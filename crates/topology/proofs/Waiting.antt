@@ -9,7 +9,7 @@ use lib.ListN.{length, getD, set, length-set}
 use lib.Seq.{getD-set-same, getD-set-other}
 use borrow.Author.Tests.{eqb-true, eqb-false, eq-eqb, ne-eqb, lt-ltb, le-ltb}
 use Rattle.folds.specs.Fold.{when, sumTo, countTo, firstTo, anyTo, zeros}
-use Rattle.folds.proofs.Cases.{either, eq-or-ne, both, when-le}
+use Rattle.folds.proofs.Cases.{either, eq-or-ne, both, when-le, and-false, and-true}
 use Rattle.folds.proofs.Sums.{sumTo-step, sumTo-less, sumTo-ext, sumTo-add}
 use Rattle.folds.proofs.Searches.{firstTo-zero, firstTo-hit, firstTo-below, firstTo-ext, firstTo-skip, count-none}
 use Rattle.folds.proofs.Lists.{getD-zeros, set-sub}
@@ -18,14 +18,6 @@ use Rattle.graph.specs.Links.{Linked}
 use Rattle.graph.proofs.Links.{Only, On, sum-on, sum-next}
 use Rattle.topology.specs.Order.{waits, ready, orNone, orderFrom}
 use Rattle.topology.specs.Counts.{left, cross, gone, Counted, Released, Across, free, Lowered}
-
-and-false : (t : Bool) → (t && false) ≡ false
-and-false true = refl
-and-false false = refl
-
-and-true : (t : Bool) → (t && true) ≡ t
-and-true true = refl
-and-true false = refl
 
 module _ (A : Arcs) where
   pub left-le : (marks : List ℕ) (v j : ℕ) → left A marks v j ≤ 1

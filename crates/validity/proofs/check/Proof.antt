@@ -1,0 +1,22 @@
+use Rattle.validity.specs.Check.{checked}
+use Rattle.validity.proofs.Checks.{sizes-fit}
+use Rattle.folds.proofs.Cases.{cases, told}
+use mathlib.Core.Path.{refl}
+use borrow.Author.Needs.{needs}
+use Rattle.validity.proofs.check.Statement.{statement}
+use Rattle.validity.proofs.check.Tie as tie
+
+pub check-spec : {M : Type 1} → statement M
+unfolding checked
+check-spec =
+    tie.close
+    (tie.spec
+    (λ c κs. search needs)
+    (λ c. search (cases, told))
+    (λ c κs. search needs)
+    (λ c. search (cases, told))
+    (λ c κs. search needs)
+    (λ c. search (cases, told))
+    (λ c. search (cases, told))
+    (λ c κs. sizes-fit _ _ _ _ _ (c .before .before .before .before .before .before .before .before .before .before .before .pre) (told _ _ _ (c .before .before .before .before .before .before .bad-vertices .ensures) (c .before .before .before .before .before .if1 .left)) (told _ _ _ (c .before .before .bad-edges .ensures) (c .before .if3 .left)))
+    (λ c. search (cases, told)))

@@ -1,0 +1,19 @@
+use Rattle.validity.specs.Check.{costsFrom, endsFrom}
+use Rattle.validity.proofs.Checks.{at-hit, at-pass, ends-fit-left}
+use native.Mathlib.Omega.{arith}
+use mathlib.Core.Path.{refl}
+use borrow.Author.Needs.{needs}
+use Rattle.validity.proofs.check_costs.Statement.{statement}
+use Rattle.validity.proofs.check_costs.Tie as tie
+
+pub check-costs-spec : {M : Type 1} → statement M
+unfolding costsFrom endsFrom
+check-costs-spec =
+    tie.close
+    (tie.spec
+    (λ c κs. search needs)
+    (λ c. search at-hit)
+    (λ c κs. search needs)
+    (λ c. search (at-hit, at-pass))
+    (λ c κs. let p = c .before .before .before .before .before .before .before .before .pre in ends-fit-left _ _ _ _ _ (p .0 .0) (p .0 .1) (p .1 .0) (c .before .bad-end .ensures) (c .if2 .left))
+    (λ c. search at-pass))

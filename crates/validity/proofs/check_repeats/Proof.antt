@@ -1,0 +1,17 @@
+use Rattle.validity.specs.Check.{repeatsFrom}
+use Rattle.validity.proofs.Checks.{identity-few, identity-part, identity-room, fit-row, length-row}
+use mathlib.Core.Path.{refl, _∙_}
+use borrow.Author.Needs.{needs}
+use Rattle.validity.proofs.check_repeats.Statement.{statement}
+use Rattle.validity.proofs.check_repeats.Tie as tie
+
+pub check-repeats-spec : {M : Type 1} → statement M
+check-repeats-spec =
+    tie.close
+    (tie.spec
+    (λ c κs. (refl, identity-few (c .before .before .before .pre)))
+    (λ c. search needs)
+    (λ c. search needs)
+    (λ c. identity-room _ _ _ (c .before .fill-identity .ensures))
+    (λ c κs. fit-row _ _ (identity-part _ _ _ (c .before .before .fill-identity .ensures)) (c .before .before .before .before .before .before .pre))
+    (λ c. c .check-row .ensures ∙ rw (length-row _ _ (identity-part _ _ _ (c .before .before .before .fill-identity .ensures)))))

@@ -1,0 +1,15 @@
+-- What checks 1 to 6 leave known of the lists, for the checks that follow them.
+use Prim.Native.Nat.{ℕ, _≤_, _<_}
+use mathlib.Core.Path.{_≡_}
+use mathlib.Core.List.{List}
+use lib.ListN.{length, getD}
+use Rattle.graph.specs.Graph.{identity}
+
+-- row is that of the vertices themselves, at most 512, and each of at most 1024 edges has its two ends among them
+pub record Fits (row starts ends : List ℕ) : Type 0 where
+  pub is : row ≡ identity (length row)
+  pub few : length row ≤ 512
+  pub many : length starts ≤ 1024
+  pub same : length ends ≡ length starts
+  pub start-in : (j : ℕ) → j < length starts → getD starts j 0 < length row
+  pub end-in : (j : ℕ) → j < length starts → getD ends j 0 < length row

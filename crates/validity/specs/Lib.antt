@@ -1,0 +1,4 @@
+pub mod Cause
+pub mod Check
+pub mod Repeat
+pub mod Fit

@@ -1,0 +1,309 @@
+// The causes of refusal and checks 1 to 8 of document 01.
+ghost use mathlib.Core.Path.{_≡_};
+ghost use Prim.Native.Nat.{ℕ, _+_, _<_, _≤_};
+ghost use lib.ListN.{length, getD};
+ghost use lib.Dec.{eqb};
+ghost use Rattle.folds.specs.Fold.{firstTo, over, when};
+ghost use Rattle.graph.specs.Graph.{graphOf, identity, via, arcs};
+ghost use Rattle.graph.specs.Links.{Linked};
+ghost use Rattle.topology.specs.Reach.{lowestOnCycle};
+ghost use Rattle.validity.specs.Cause.{numberOf};
+ghost use Rattle.validity.specs.Repeat.{Marked, tried};
+ghost use Rattle.validity.specs.Fit.{Fits};
+ghost use Rattle.validity.specs.Check.{badVertices, badParts, badEdges, badCost, badEnds, repeats, cyclesFrom, repeatsFrom, endsFrom, costsFrom, checked};
+
+// In the order of document 01's numbers.
+pub enum Cause {
+    Vertices,
+    Parts,
+    Edges,
+    Room,
+    Cost,
+    Ends,
+    Repeat,
+    Cycle,
+    Uncut,
+    Entry,
+    Empty,
+    Over,
+    PartCycle,
+    Length,
+    Line,
+    Lines,
+}
+
+pub enum Verdict {
+    Passed,
+    Refused(Cause, usize),
+}
+
+// Document 01's number of a cause.
+pub fn number(c: Cause) -> u32
+    ensures { λ r. ⌜ r ≡ numberOf c ⌝ }
+{
+    match c {
+        Cause::Vertices => 1,
+        Cause::Parts => 2,
+        Cause::Edges => 3,
+        Cause::Room => 4,
+        Cause::Cost => 5,
+        Cause::Ends => 6,
+        Cause::Repeat => 7,
+        Cause::Cycle => 8,
+        Cause::Uncut => 9,
+        Cause::Entry => 10,
+        Cause::Empty => 11,
+        Cause::Over => 12,
+        Cause::PartCycle => 13,
+        Cause::Length => 14,
+        Cause::Line => 15,
+        Cause::Lines => 16,
+    }
+}
+
+// Where a repeated edge is, or how many edges there are, and how many the search tried.
+pub struct Repeated {
+    pub place: usize,
+    pub tried: usize,
+}
+
+fn bad_vertices(most: usize, n: usize) -> bool
+    ensures { λ r. ⌜ r ≡ badVertices most n ⌝ }
+{
+    if n == 0 {
+        return true;
+    }
+    most < n
+}
+
+fn bad_parts(k: usize, n: usize) -> bool
+    ensures { λ r. ⌜ r ≡ badParts k n ⌝ }
+{
+    if k == 0 {
+        return true;
+    }
+    if 16 < k {
+        return true;
+    }
+    n < k
+}
+
+fn bad_edges(starts: usize, ends: usize, widths: usize) -> bool
+    ensures { λ r. ⌜ r ≡ badEdges starts ends widths ⌝ }
+{
+    if ends != starts {
+        return true;
+    }
+    if widths != starts {
+        return true;
+    }
+    1024 < starts
+}
+
+fn is_bad_cost(costs: &[u16], bound: u32, v: usize) -> bool
+    requires { ⌜ v < length (now costs) ⌝ }
+    ensures { λ r. ⌜ r ≡ badCost (now (costs .entry)) bound v ⌝ }
+{
+    let cost = costs[v];
+    if cost == 0 {
+        return true;
+    }
+    bound < cost as u32
+}
+
+// The lowest vertex that check 5 refuses, or how many there are.
+fn bad_cost(costs: &[u16], bound: u32) -> usize
+    ensures { λ r. ⌜ r ≡ firstTo (length (now (costs .entry))) (badCost (now (costs .entry)) bound) ⌝ }
+{
+    let mut v: usize = 0;
+    while v < costs.len() {
+        if is_bad_cost(costs, bound, v) {
+            return v;
+        }
+        v += 1;
+    }
+    v
+}
+
+fn is_bad_end(n: usize, starts: &[u16], ends: &[u16], widths: &[u16], j: usize) -> bool
+    requires { ⌜ j < length (now starts) ⌝ }
+    requires { ⌜ (length (now ends) ≡ length (now starts)) × (length (now widths) ≡ length (now starts)) ⌝ }
+    ensures { λ r. ⌜ r ≡ badEnds n (now (starts .entry)) (now (ends .entry)) (now (widths .entry)) j ⌝ }
+{
+    let a = folds::at16(starts, j);
+    if n <= a {
+        return true;
+    }
+    let b = folds::at16(ends, j);
+    if n <= b {
+        return true;
+    }
+    if a == b {
+        return true;
+    }
+    folds::at16(widths, j) == 0
+}
+
+// The lowest edge that check 6 refuses, or how many there are.
+fn bad_end(n: usize, starts: &[u16], ends: &[u16], widths: &[u16]) -> usize
+    requires { ⌜ (length (now ends) ≡ length (now starts)) × (length (now widths) ≡ length (now starts)) ⌝ }
+    ensures { λ r. ⌜ r ≡ firstTo (length (now (starts .entry))) (badEnds n (now (starts .entry)) (now (ends .entry)) (now (widths .entry))) ⌝ }
+{
+    let mut j: usize = 0;
+    while j < starts.len() {
+        if is_bad_end(n, starts, ends, widths, j) {
+            return j;
+        }
+        j += 1;
+    }
+    j
+}
+
+// The vertices themselves as a row.
+fn fill_identity(row: &mut [u16; 512], n: usize)
+    requires { ⌜ (length (now row) ≡ 512) × (n ≤ 512) ⌝ }
+    ensures { λ _. ⌜ now (row .exit) ≡ over (identity n) (now (row .entry)) ⌝ }
+{
+    let mut v: usize = 0;
+    while v < n {
+        row[v] = v as u16;
+        v += 1;
+    }
+}
+
+fn mark(stamp: u16, now: u16) -> u8
+    ensures { λ r. ⌜ r ≡ when (eqb stamp now) 1 ⌝ }
+{
+    if stamp == now { 1 } else { 0 }
+}
+
+// Marks the edges of s that repeat an earlier one: those that go to a vertex that is stamped already.
+fn mark_repeats(row: &[u16], starts: &[u16], ends: &[u16], head: &[u16; 512], next: &[u16; 1024], s: usize, stamps: &mut [u16; 512], again: &mut [u8; 1024])
+    requires { ⌜ Fits (now row) (now starts) (now ends) ⌝ }
+    requires { ⌜ Linked (via (now row) (now starts)) (length (now starts)) (now head) (now next) ⌝ }
+    requires { ⌜ s < 512 ⌝ }
+    requires { ⌜ Marked (now starts) (now ends) s 0 (now stamps) (now again) ⌝ }
+    ensures { λ _. ⌜ Marked (now (starts .entry)) (now (ends .entry)) s (length (now (starts .entry))) (now (stamps .exit)) (now (again .exit)) ⌝ }
+{
+    let m = starts.len();
+    let stamp = (s + 1) as u16;
+    let mut j = folds::wide(head[s]);
+    while j < m {
+        let b = folds::at16(ends, j);
+        again[j] = mark(stamps[b], stamp);
+        stamps[b] = stamp;
+        j = folds::wide(next[j]);
+    }
+}
+
+// Marks every edge that repeats an earlier one.
+fn mark_all(row: &[u16], starts: &[u16], ends: &[u16], again: &mut [u8; 1024])
+    requires { ⌜ Fits (now row) (now starts) (now ends) ⌝ }
+    requires { ⌜ length (now again) ≡ 1024 ⌝ }
+    requires { ⌜ ((i : ℕ) → getD (now again) i 0 ≡ 0) ⌝ }
+    ensures { λ _. ⌜ ((i : ℕ) → i < length (now (starts .entry)) → getD (now (again .exit)) i 0 ≡ when (repeats (now (starts .entry)) (now (ends .entry)) i) 1) × (length (now (again .exit)) ≡ 1024) ⌝ }
+{
+    let mut head = [0u16; 512];
+    let mut next = [0u16; 1024];
+    let mut stamps = [0u16; 512];
+    graph::fill(row, starts, &mut head, &mut next);
+    let mut s: usize = 0;
+    while s < row.len() {
+        mark_repeats(row, starts, ends, &head, &next, s, &mut stamps, again);
+        s += 1;
+    }
+}
+
+// Tries the edges from the lowest up as repeats of earlier ones, to the first find.
+pub fn find_repeat(row: &[u16], starts: &[u16], ends: &[u16]) -> Repeated
+    requires { ⌜ Fits (now row) (now starts) (now ends) ⌝ }
+    ensures { λ r. ⌜ (r .place ≡ firstTo (length (now (starts .entry))) (repeats (now (starts .entry)) (now (ends .entry)))) × (r .tried ≡ tried (r .place) (length (now (starts .entry)))) ⌝ }
+{
+    let mut again = [0u8; 1024];
+    mark_all(row, starts, ends, &mut again);
+    let mut j: usize = 0;
+    while j < starts.len() {
+        if again[j] != 0 {
+            return Repeated { place: j, tried: j + 1 };
+        }
+        j += 1;
+    }
+    Repeated { place: j, tried: j }
+}
+
+// The lowest vertex on a cycle, or how many there are: the search runs only where the order does not take all.
+fn cycle_at(row: &[u16], starts: &[u16], ends: &[u16]) -> usize
+    requires { ⌜ Fits (now row) (now starts) (now ends) ⌝ }
+    ensures { λ r. ⌜ r ≡ lowestOnCycle (arcs (now (row .entry)) (now (starts .entry)) (now (ends .entry))) (length (now (row .entry))) ⌝ }
+{
+    let n = row.len();
+    let mut order = [0u16; 512];
+    let count = topology::order(row, starts, ends, n, &mut order);
+    if count == n {
+        return n;
+    }
+    topology::lowest_on_cycle(row, starts, ends, n)
+}
+
+// Checks 7 and 8, on the vertices' own row.
+fn check_row(row: &[u16], starts: &[u16], ends: &[u16]) -> Verdict
+    requires { ⌜ Fits (now row) (now starts) (now ends) ⌝ }
+    ensures { λ r. ⌜ r ≡ repeatsFrom (length (now (row .entry))) (now (starts .entry)) (now (ends .entry)) ⌝ }
+{
+    let found = find_repeat(row, starts, ends);
+    let j = found.place;
+    if j < starts.len() {
+        return Verdict::Refused(Cause::Repeat, j);
+    }
+    let v = cycle_at(row, starts, ends);
+    if v < row.len() {
+        return Verdict::Refused(Cause::Cycle, v);
+    }
+    Verdict::Passed
+}
+
+fn check_repeats(n: usize, starts: &[u16], ends: &[u16]) -> Verdict
+    requires { ⌜ Fits (identity n) (now starts) (now ends) ⌝ }
+    ensures { λ r. ⌜ r ≡ repeatsFrom n (now (starts .entry)) (now (ends .entry)) ⌝ }
+{
+    let mut row = [0u16; 512];
+    fill_identity(&mut row, n);
+    check_row(&row[0..n], starts, ends)
+}
+
+// Checks 5 to 8.
+fn check_costs(costs: &[u16], starts: &[u16], ends: &[u16], widths: &[u16], bound: u32) -> Verdict
+    requires { ⌜ (length (now costs) ≤ 512) × (length (now starts) ≤ 1024) ⌝ }
+    requires { ⌜ (length (now ends) ≡ length (now starts)) × (length (now widths) ≡ length (now starts)) ⌝ }
+    ensures { λ r. ⌜ r ≡ costsFrom (graphOf (now (costs .entry)) (now (starts .entry)) (now (ends .entry)) (now (widths .entry))) bound ⌝ }
+{
+    let v = bad_cost(costs, bound);
+    if v < costs.len() {
+        return Verdict::Refused(Cause::Cost, v);
+    }
+    let j = bad_end(costs.len(), starts, ends, widths);
+    if j < starts.len() {
+        return Verdict::Refused(Cause::Ends, j);
+    }
+    check_repeats(costs.len(), starts, ends)
+}
+
+// Checks 1 to 8: at most `most` vertices; `room` is the caller's verdict of check 4.
+pub fn check(most: usize, costs: &[u16], starts: &[u16], ends: &[u16], widths: &[u16], k: usize, bound: u32, room: bool) -> Verdict
+    requires { ⌜ most ≤ 512 ⌝ }
+    ensures { λ r. ⌜ r ≡ checked most (graphOf (now (costs .entry)) (now (starts .entry)) (now (ends .entry)) (now (widths .entry))) k bound room ⌝ }
+{
+    if bad_vertices(most, costs.len()) {
+        return Verdict::Refused(Cause::Vertices, 0);
+    }
+    if bad_parts(k, costs.len()) {
+        return Verdict::Refused(Cause::Parts, 0);
+    }
+    if bad_edges(starts.len(), ends.len(), widths.len()) {
+        return Verdict::Refused(Cause::Edges, 0);
+    }
+    if !room {
+        return Verdict::Refused(Cause::Room, 0);
+    }
+    check_costs(costs, starts, ends, widths, bound)
+}
