@@ -37,16 +37,7 @@ module _ (cause : Cause) (i j n : ℕ) (x : Verdict) where
   unfolding refuseAt
   at-pass v e l h = rw (← e, le-ltb _ _ l) h
 
--- what a chain that passed says
-passed-at : (cause : Cause) (i n : ℕ) (x : Verdict) → refuseAt cause i n x ≡ Passed → (n ≤ i) × (x ≡ Passed)
-unfolding refuseAt
-passed-at cause i n x e = by (ltb i n) (λ t. let q = rw t at e in let z : _≡_ {A = ℕ} 0 1 = cc in absurd (omega arith)) (λ t. (ltb-false i n t, rw t at e))
-
-passed-if : (fault : Bool) (cause : Cause) (x : Verdict) → refuseIf fault cause x ≡ Passed → (fault ≡ false) × (x ≡ Passed)
-passed-if true cause x e = let z : _≡_ {A = ℕ} 0 1 = cc in absurd (omega arith)
-passed-if false cause x e = (refl, e)
-
-neither : (a b : Bool) → (a || b) ≡ false → (a ≡ false) × (b ≡ false)
+pub neither : (a b : Bool) → (a || b) ≡ false → (a ≡ false) × (b ≡ false)
 neither true b e = absurd (no-bool (sym e))
 neither false b e = (refl, e)
 

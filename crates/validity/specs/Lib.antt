@@ -2,3 +2,4 @@ pub mod Cause
 pub mod Check
 pub mod Repeat
 pub mod Fit
+pub mod Sound

@@ -1,0 +1,127 @@
+-- What passed checks say of the graph.
+use Prim.Native.Nat.{ℕ, zero, suc, _+_, _≤_, _<_}
+use mathlib.Core.Path.{_≡_, refl, sym, ap, _∙_}
+use mathlib.Core.Bool.{Bool, true, false, not, _&&_, _||_}
+use mathlib.Core.List.{List}
+use native.Mathlib.Omega.{arith}
+use lib.Dec.{eqb, ltb, leb}
+use lib.ListN.{length, getD}
+use borrow.Author.Tests.{eqb-true, eqb-false, ltb-true, ltb-false, leb-false, eq-eqb, le-ltb}
+use Rattle.folds.specs.Fold.{pick, firstTo}
+use Rattle.folds.proofs.Cases.{by, no-bool, not-no, not-yes, both-i}
+use Rattle.folds.proofs.Searches.{firstTo-le, firstTo-none, firstTo-all, any-none}
+use Rattle.graph.specs.Walk.{Acyclic}
+use Rattle.graph.specs.Graph.{Graph, vertices, edges, identity, seen, Edge, Formed, Proper}
+use Rattle.graph.proofs.Edges.{row-inside, identity-row}
+use Rattle.topology.specs.Reach.{lowestOnCycle}
+use Rattle.topology.proofs.Reaches.{none-acyclic}
+use Rattle.validity.specs.Sound.{Sound}
+use Rattle.validity.specs.Check.{refuseIf, refuseAt, badVertices, badParts, badEdges, badCost, badEnds, repeats, cyclesFrom, repeatsFrom, endsFrom, costsFrom, checked, Valid}
+use Rattle.validity.specs.declared.Cause.{Cause}
+use Rattle.validity.specs.declared.Verdict.{Verdict}
+use Rattle.validity.specs.declared.Verdict.the-variants.{Passed, Refused}
+use Rattle.validity.proofs.Checks.{neither}
+
+positive : (x : ℕ) → (x ≡ 0 → ⊥) → 0 < x
+positive zero n = absurd (n refl)
+positive (suc x) n = omega arith
+
+-- a chain that passed: this check did, and the rest
+pub passed-at : (cause : Cause) (n : ℕ) (p : ℕ → Bool) (x : Verdict) → refuseAt cause (firstTo n p) n x ≡ Passed → ((v : ℕ) → v < n → p v ≡ false) × (x ≡ Passed)
+unfolding refuseAt
+passed-at cause n p x e =
+    by (ltb (firstTo n p) n) (λ t. let q = rw t at e in let z : _≡_ {A = ℕ} 0 1 = cc in absurd (omega arith))
+    (λ t. (firstTo-none n p (omega (arith, firstTo-le n p, ltb-false (firstTo n p) n t)), rw t at e))
+
+pub passed-if : (fault : Bool) (cause : Cause) (x : Verdict) → refuseIf fault cause x ≡ Passed → (fault ≡ false) × (x ≡ Passed)
+passed-if true cause x e = let z : _≡_ {A = ℕ} 0 1 = cc in absurd (omega arith)
+passed-if false cause x e = (refl, e)
+
+module _ (G : Graph) (k bound : ℕ) (valid : Valid G k bound) where
+  first-three : (badVertices 512 (vertices G) ≡ false) × (badParts k (vertices G) ≡ false) × (badEdges (length (G .starts)) (length (G .ends)) (length (G .widths)) ≡ false) × (costsFrom G bound ≡ Passed)
+  unfolding checked
+  first-three =
+      let (a, r1) = passed-if (badVertices 512 (vertices G)) _ _ valid in
+      let (b, r2) = passed-if (badParts k (vertices G)) _ _ r1 in
+      let (c, r3) = passed-if (badEdges (length (G .starts)) (length (G .ends)) (length (G .widths))) _ _ r2 in
+      (a, b, c, r3)
+
+  last-four : ((v : ℕ) → v < vertices G → badCost (G .costs) bound v ≡ false)
+      × ((j : ℕ) → j < edges G → badEnds (vertices G) (G .starts) (G .ends) (G .widths) j ≡ false)
+      × ((j : ℕ) → j < edges G → repeats (G .starts) (G .ends) j ≡ false)
+      × (cyclesFrom (vertices G) (G .starts) (G .ends) ≡ Passed)
+  unfolding costsFrom endsFrom repeatsFrom
+  last-four =
+      let (a, r1) = passed-at _ (vertices G) (badCost (G .costs) bound) _ (first-three .3) in
+      let (b, r2) = passed-at _ (edges G) (badEnds (vertices G) (G .starts) (G .ends) (G .widths)) _ r1 in
+      let (c, r3) = passed-at _ (edges G) (repeats (G .starts) (G .ends)) _ r2 in
+      (a, b, c, r3)
+
+  ends-good : (j : ℕ) → j < edges G → (getD (G .starts) j 0 < vertices G) × (getD (G .ends) j 0 < vertices G) × (getD (G .starts) j 0 ≡ getD (G .ends) j 0 → ⊥) × (0 < getD (G .widths) j 0)
+  unfolding badEnds
+  ends-good j h =
+      let (a, r1) = neither (leb (vertices G) (getD (G .starts) j 0)) _ (last-four .1 j h) in
+      let (b, r2) = neither (leb (vertices G) (getD (G .ends) j 0)) _ r1 in
+      let (c, d) = neither (eqb (getD (G .starts) j 0) (getD (G .ends) j 0)) _ r2 in
+      (leb-false _ _ a, leb-false _ _ b, eqb-false _ _ c, positive (getD (G .widths) j 0) (eqb-false _ _ d))
+
+  costs-good : (v : ℕ) → v < vertices G → (0 < getD (G .costs) v 0) × (getD (G .costs) v 0 ≤ bound)
+  unfolding badCost
+  costs-good v h =
+      let (a, b) = neither (eqb (getD (G .costs) v 0) 0) _ (last-four .0 v h) in
+      (positive (getD (G .costs) v 0) (eqb-false _ _ a), ltb-false bound (getD (G .costs) v 0) b)
+
+  -- each of the lists fits the others
+  valid-proper : Proper G
+  unfolding badVertices badEdges
+  valid-proper =
+      let (a, b) = neither (eqb (vertices G) 0) _ (first-three .0) in
+      let (p, r) = neither (not (eqb (length (G .ends)) (length (G .starts)))) _ (first-three .2) in
+      let (q, m) = neither (not (eqb (length (G .widths)) (length (G .starts)))) _ r in
+      record {
+        formed = record {
+          same-ends = eqb-true _ _ (not-no _ p);
+          same-widths = eqb-true _ _ (not-no _ q);
+          start-in = λ j h. ends-good j h .0;
+          end-in = λ j h. ends-good j h .1;
+        };
+        some = positive (vertices G) (eqb-false (vertices G) 0 a);
+        few = ltb-false 512 (vertices G) b;
+        many = ltb-false 1024 (edges G) m;
+        costly = λ v h. costs-good v h .0;
+        wide = λ j h. ends-good j h .3;
+      }
+
+  valid-acyclic : Acyclic (Edge (seen G (identity (vertices G))))
+  unfolding cyclesFrom lowestOnCycle
+  valid-acyclic =
+      let z = passed-at _ (vertices G) _ _ (last-four .3) in
+      none-acyclic (seen G (identity (vertices G))) (vertices G) (row-inside (valid-proper .formed) (identity-row G)) (firstTo-all (vertices G) _ (z .0))
+
+  -- a valid graph is sound
+  pub valid-sound : Sound G k bound
+  unfolding badParts repeats
+  valid-sound =
+      let (a, r) = neither (eqb k 0) _ (first-three .1) in
+      let (b, c) = neither (ltb 16 k) _ r in
+      record {
+        proper = valid-proper;
+        acyclic = valid-acyclic;
+        some = positive k (eqb-false k 0 a);
+        few = ltb-false 16 k b;
+        filled = ltb-false (vertices G) k c;
+        within = λ v h. costs-good v h .1;
+        apart = λ j h. ends-good j h .2;
+        once = λ i j l h es ee. no-bool (sym (any-none j _ (last-four .2 j h) i l) ∙ both-i (eqb (getD (G .starts) i 0) (getD (G .starts) j 0)) _ (eq-eqb _ _ es) (eq-eqb _ _ ee));
+      }
+
+-- the tables that the caller lends, and fewer vertices, do not matter to it
+pub passed-valid : (most : ℕ) (G : Graph) (k bound : ℕ) (room : Bool) → most ≤ 512 → checked most G k bound room ≡ Passed → (Valid G k bound) × (room ≡ true)
+unfolding checked badVertices
+passed-valid most G k bound room l e =
+    let (a, r1) = passed-if (badVertices most (vertices G)) _ _ e in
+    let (b, r2) = passed-if (badParts k (vertices G)) _ _ r1 in
+    let (c, r3) = passed-if (badEdges (length (G .starts)) (length (G .ends)) (length (G .widths))) _ _ r2 in
+    let (d, r4) = passed-if (not room) _ _ r3 in
+    let (z, f) = neither (eqb (vertices G) 0) _ a in
+    (rw (z, le-ltb 512 (vertices G) (omega (arith, ltb-false most (vertices G) f)), b, c) r4, not-no room d)
