@@ -16,6 +16,8 @@ use Rattle.folds.proofs.Lists.{getD-listTo, length-listTo, listTo-ext, getD-pas
 use Rattle.graph.specs.Walk.{Walk, one, more, Cycle, Acyclic}
 use Rattle.graph.specs.Graph.{Arcs, edge, Edge, Inside}
 use Rattle.graph.proofs.Edges.{arc-edge, edge-arc, edge-other, edge-inside}
+use Rattle.topology.specs.Order.{orderOf}
+use Rattle.topology.proofs.Orders.{all-acyclic}
 use Rattle.topology.specs.Reach.{spreads, grown, reachedAfter, onCycle, lowestOnCycle}
 
 abbrev hit : List ℕ → ℕ → Bool
@@ -154,3 +156,7 @@ module _ (A : Arcs) (g : ℕ) where
     pub none-acyclic : lowestOnCycle A g ≡ g → Acyclic (Edge A)
     unfolding Acyclic
     none-acyclic e c = omega (arith, lowest-some c)
+
+    -- the order took all: none lies on a cycle
+    pub all-taken : g ≤ 512 → {count : ℕ} → count ≡ length (orderOf A g) → count ≡ g → g ≡ lowestOnCycle A g
+    all-taken small e q = sym (lowest-none (all-acyclic A g inside small (sym e ∙ q)))

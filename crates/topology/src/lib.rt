@@ -183,8 +183,8 @@ fn returns_to(row: &[u16], starts: &[u16], ends: &[u16], head: &[u16; 512], next
     marks[v] != 0
 }
 
-// The lowest of g clusters that lies on a cycle, or g.
-pub fn lowest_on_cycle(row: &[u16], starts: &[u16], ends: &[u16], g: usize) -> usize
+// The lowest of g clusters from which a walk comes back, or g.
+fn search_cycle(row: &[u16], starts: &[u16], ends: &[u16], g: usize) -> usize
     requires { ⌜ Joins (now row) (now starts) (now ends) ⌝ }
     requires { ⌜ Inside (arcs (now row) (now starts) (now ends)) g ⌝ }
     requires { ⌜ g ≤ 512 ⌝ }
@@ -201,4 +201,19 @@ pub fn lowest_on_cycle(row: &[u16], starts: &[u16], ends: &[u16], g: usize) -> u
         v += 1;
     }
     v
+}
+
+// The lowest of g clusters that lies on a cycle, or g: the search runs only where the order does not take all.
+pub fn lowest_on_cycle(row: &[u16], starts: &[u16], ends: &[u16], g: usize) -> usize
+    requires { ⌜ Joins (now row) (now starts) (now ends) ⌝ }
+    requires { ⌜ Inside (arcs (now row) (now starts) (now ends)) g ⌝ }
+    requires { ⌜ g ≤ 512 ⌝ }
+    ensures { λ r. ⌜ r ≡ lowestOnCycle (arcs (now (row .entry)) (now (starts .entry)) (now (ends .entry))) g ⌝ }
+{
+    let mut taken = [0u16; 512];
+    let count = order(row, starts, ends, g, &mut taken);
+    if count == g {
+        return g;
+    }
+    search_cycle(row, starts, ends, g)
 }

@@ -17,10 +17,7 @@ use Rattle.graph.specs.Walk.{Acyclic}
 use Rattle.graph.specs.Graph.{Graph, graphOf, vertices, edges, identity, via, arcs, seen, Edge, Inside, Formed, Proper}
 use Rattle.graph.specs.Links.{Ends, Joins}
 use Rattle.graph.proofs.Edges.{identity-at}
-use Rattle.topology.specs.Order.{orderOf}
 use Rattle.topology.specs.Reach.{lowestOnCycle}
-use Rattle.topology.proofs.Orders.{all-acyclic}
-use Rattle.topology.proofs.Reaches.{lowest-none, none-acyclic}
 use Rattle.validity.specs.Fit.{Fits}
 use Rattle.validity.specs.Check.{refuseIf, refuseAt, badVertices, badParts, badEdges, badCost, badEnds, repeats, cyclesFrom, repeatsFrom, endsFrom, costsFrom, checked, Valid}
 use Rattle.validity.specs.declared.Cause.{Cause}
@@ -86,11 +83,6 @@ module _ {row starts ends : List ℕ} (F : Fits row starts ends) where
 
   pub fit-inside : Inside (arcs row starts ends) (length row)
   fit-inside j h = (omega (arith, row-at (getD starts j 0) (F .start-in j h), F .start-in j h), omega (arith, row-at (getD ends j 0) (F .end-in j h), F .end-in j h))
-
-  -- the order took all: no vertex lies on a cycle
-  pub no-cycle : (count n : ℕ) → n ≡ length row → count ≡ length (orderOf (arcs row starts ends) n) → count ≡ n → n ≡ lowestOnCycle (arcs row starts ends) n
-  no-cycle count n e h q =
-      sym (lowest-none (arcs row starts ends) n (rw (← e) at fit-inside) (all-acyclic (arcs row starts ends) n (rw (← e) at fit-inside) (omega (arith, F .few)) (sym h ∙ q)))
 
 -- an end is a vertex, so it fits an array of 512
 pub end-low : {row starts ends : List ℕ} {j b x : ℕ} → Fits row starts ends → j < length starts → Read ends j b x → x < 512

@@ -4,9 +4,8 @@ ghost use Prim.Native.Nat.{ℕ, _+_, _<_, _≤_};
 ghost use lib.ListN.{length, getD};
 ghost use lib.Dec.{eqb};
 ghost use Rattle.folds.specs.Fold.{firstTo, over, when};
-ghost use Rattle.graph.specs.Graph.{graphOf, identity, via, arcs};
+ghost use Rattle.graph.specs.Graph.{graphOf, identity, via};
 ghost use Rattle.graph.specs.Links.{Linked};
-ghost use Rattle.topology.specs.Reach.{lowestOnCycle};
 ghost use Rattle.validity.specs.Cause.{numberOf};
 ghost use Rattle.validity.specs.Repeat.{Marked, tried};
 ghost use Rattle.validity.specs.Fit.{Fits};
@@ -231,20 +230,6 @@ pub fn find_repeat(row: &[u16], starts: &[u16], ends: &[u16]) -> Repeated
     Repeated { place: j, tried: j }
 }
 
-// The lowest vertex on a cycle, or how many there are: the search runs only where the order does not take all.
-fn cycle_at(row: &[u16], starts: &[u16], ends: &[u16]) -> usize
-    requires { ⌜ Fits (now row) (now starts) (now ends) ⌝ }
-    ensures { λ r. ⌜ r ≡ lowestOnCycle (arcs (now (row .entry)) (now (starts .entry)) (now (ends .entry))) (length (now (row .entry))) ⌝ }
-{
-    let n = row.len();
-    let mut order = [0u16; 512];
-    let count = topology::order(row, starts, ends, n, &mut order);
-    if count == n {
-        return n;
-    }
-    topology::lowest_on_cycle(row, starts, ends, n)
-}
-
 // Checks 7 and 8, on the vertices' own row.
 fn check_row(row: &[u16], starts: &[u16], ends: &[u16]) -> Verdict
     requires { ⌜ Fits (now row) (now starts) (now ends) ⌝ }
@@ -255,7 +240,7 @@ fn check_row(row: &[u16], starts: &[u16], ends: &[u16]) -> Verdict
     if j < starts.len() {
         return Verdict::Refused(Cause::Repeat, j);
     }
-    let v = cycle_at(row, starts, ends);
+    let v = topology::lowest_on_cycle(row, starts, ends, row.len());
     if v < row.len() {
         return Verdict::Refused(Cause::Cycle, v);
     }
