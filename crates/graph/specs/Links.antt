@@ -1,9 +1,10 @@
--- Edges in lists by key: where the next edge of the same key is.
+-- What the code of this crate promises: edges in lists by key, where the next edge of the same key is, and sums so far.
 use Prim.Native.Nat.{ℕ, _+_, _≤_, _<_}
 use mathlib.Core.Path.{_≡_}
 use mathlib.Core.List.{List}
 use lib.ListN.{length, getD}
-use Rattle.graph.specs.Graph.{via, Arcs, crossing}
+use Rattle.folds.specs.Fold.{sumTo}
+use Rattle.graph.specs.Graph.{via, Arcs, crossing, costIn}
 
 -- to is the least edge from `from` on with the key a, or m
 pub record Hop (key : ℕ → ℕ) (m a from to : ℕ) : Type 0 where
@@ -41,3 +42,8 @@ pub record Cluster (row ends : List ℕ) (j r : ℕ) : Type 0 where
 pub record Crossing (A : Arcs) (widths : List ℕ) (j r : ℕ) : Type 0 where
   pub is : r ≡ crossing A widths j
   pub low : r < 65536
+
+-- the costs of the first n vertices, in the sums of 16 parts
+pub record Summed (costs parts : List ℕ) (n : ℕ) (sums : List ℕ) : Type 0 where
+  pub tall : length sums ≡ 16
+  pub is : (u : ℕ) → u < 16 → getD sums u 0 ≡ sumTo n (costIn costs parts u)

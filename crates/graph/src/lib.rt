@@ -1,9 +1,9 @@
 // Graphs, rows and tables: clusters at the ends of edges, edges in lists by key, the cut of a table.
 ghost use mathlib.Core.Path.{_≡_};
-ghost use Prim.Native.Nat.{_<_};
-ghost use lib.ListN.{length};
+ghost use Prim.Native.Nat.{ℕ, _<_, _≤_};
+ghost use lib.ListN.{length, getD};
 ghost use Rattle.graph.specs.Graph.{via, arcs, cut};
-ghost use Rattle.graph.specs.Links.{Linked, Ends, Joins, Cluster, Crossing};
+ghost use Rattle.graph.specs.Links.{Linked, Ends, Joins, Cluster, Crossing, Summed};
 
 // The cluster at which edge j has its end.
 pub fn cluster(row: &[u16], ends: &[u16], j: usize) -> usize
@@ -59,4 +59,19 @@ pub fn cut_of(parts: &[u16], starts: &[u16], ends: &[u16], widths: &[u16]) -> u3
         j += 1;
     }
     sum
+}
+
+// The cost of each of 16 parts.
+pub fn part_costs(costs: &[u16], parts: &[u16], sums: &mut [u32; 16])
+    requires { ⌜ (length (now costs) ≤ 512) × (length (now costs) ≤ length (now parts)) ⌝ }
+    requires { ⌜ ((v : ℕ) → v < length (now costs) → getD (now parts) v 0 < 16) ⌝ }
+    ensures { λ _. ⌜ Summed (now (costs .entry)) (now (parts .entry)) (length (now (costs .entry))) (now (sums .exit)) ⌝ }
+{
+    *sums = [0; 16];
+    let mut v: usize = 0;
+    while v < costs.len() {
+        let u = folds::at16(parts, v);
+        sums[u] = sums[u] + costs[v] as u32;
+        v += 1;
+    }
 }

@@ -1,7 +1,10 @@
 -- Document 01's table of refusals: a number for each cause.
 use Prim.Native.Nat.{ℕ}
+use mathlib.Core.List.{List, [], _∷_}
 use Rattle.validity.specs.declared.Cause.{Cause}
 use Rattle.validity.specs.declared.Cause.the-variants.{Vertices, Parts, Edges, Room, Cost, Ends, Repeat, Cycle, Uncut, Entry, Empty, Over, PartCycle, Length, Line, Lines}
+use Rattle.validity.specs.declared.Verdict.{Verdict}
+use Rattle.validity.specs.declared.Verdict.the-variants.{Passed, Refused}
 
 abbrev pub numberOf : Cause → ℕ
 numberOf Vertices = 1
@@ -20,3 +23,15 @@ numberOf PartCycle = 13
 numberOf Length = 14
 numberOf Line = 15
 numberOf Lines = 16
+
+-- What a public call answers, in document 01's terms: number 0 and the values named there, or the refusal's number and its place.
+pub record Answer : Type 0 where
+  pub number : ℕ
+  pub values : List ℕ
+
+abbrev pub refusal : Cause → ℕ → Answer
+refusal cause place = record { number = numberOf cause; values = place ∷ [] }
+
+abbrev pub told : Verdict → List ℕ → Answer
+told Passed values = record { number = 0; values = values }
+told (Refused cause place) values = refusal cause place
