@@ -1,0 +1,116 @@
+-- The whole inspection, from what its steps answered; and the claim about it.
+use Prim.Native.Nat.{ℕ, _+_, _≤_, _<_}
+use mathlib.Core.Path.{_≡_, refl, sym, ap, _∙_}
+use mathlib.Core.Bool.{Bool, true, false, _&&_}
+use mathlib.Core.Logic.{_↔_}
+use mathlib.Core.List.{List, [], _∷_}
+use native.Mathlib.Omega.{arith}
+use lib.Dec.{leb}
+use lib.ListN.{length, getD, take, length-take}
+use lib.Seq.{length-take-le, getD-take}
+use borrow.Author.Tests.{leb-true, le-leb}
+use Rattle.folds.specs.Fold.{over}
+use Rattle.folds.proofs.Cases.{both}
+use Rattle.graph.specs.Graph.{Graph, vertices, edges, seen, cutOf, Proper}
+use Rattle.graph.specs.Links.{Joins}
+use Rattle.topology.specs.Order.{orderOf}
+use Rattle.validity.specs.Cause.{Answer, numberOf, refusal, told}
+use Rattle.validity.specs.Check.{andThen, checked, Valid}
+use Rattle.validity.specs.Sound.{Sound}
+use Rattle.validity.specs.declared.Cause.{Cause}
+use Rattle.validity.specs.declared.Cause.the-variants.{Vertices, Parts, Edges, Room, Cost, Ends, Repeat, Cycle, Uncut, Entry, Empty, Over, PartCycle, Length, Line, Lines}
+use Rattle.validity.specs.declared.Verdict.{Verdict}
+use Rattle.validity.specs.declared.Verdict.the-variants.{Passed, Refused}
+use Rattle.validity.proofs.Passed.{passed-valid, valid-sound}
+use Rattle.inspection.specs.Table.{tableOf, Fine, Tabled}
+use Rattle.inspection.specs.Inspect.{partsOf, verdictOf, inspectOf, startOrder, orderAfter}
+use Rattle.inspection.proofs.Tables.{passed-fine, fine-passed, table-joins}
+
+-- what the calls below answered: v of checks 1 to 8
+module _ (G : Graph) (k bound : ℕ) (table order : List ℕ) (room : Bool) (v : Verdict)
+    (er : room ≡ (leb (vertices G) (length table) && leb k (length order))) (ev : v ≡ checked 512 G k bound room) where
+  pub refused-first : {cause : Cause} {place : ℕ} → v ≡ Refused cause place
+      → (refusal cause place ≡ inspectOf G k bound table order) × (order ≡ orderAfter G k bound table order)
+  unfolding inspectOf orderAfter verdictOf
+  refused-first e = rw (← er, ← ev, e) (refl, refl)
+
+  pub refused-table : {cause : Cause} {place : ℕ} {w : Verdict} → v ≡ Passed → w ≡ tableOf (G .costs) (G .starts) (G .ends) k bound (partsOf G table) → w ≡ Refused cause place
+      → (refusal cause place ≡ inspectOf G k bound table order) × (order ≡ orderAfter G k bound table order)
+  unfolding inspectOf orderAfter verdictOf
+  refused-table e ew h = rw (← er, ← ev, e, ← ew, h) (refl, refl)
+
+  pub passed-both : {w : Verdict} → v ≡ Passed → w ≡ tableOf (G .costs) (G .starts) (G .ends) k bound (partsOf G table) → w ≡ Passed
+      → (record { number = 0; values = cutOf G (partsOf G table) ∷ [] } ≡ inspectOf G k bound table order) × (over (orderOf (seen G (partsOf G table)) k) order ≡ orderAfter G k bound table order)
+  unfolding inspectOf orderAfter verdictOf
+  passed-both e ew h = rw (← er, ← ev, e, ← ew, h) (refl, refl)
+
+  -- where they passed, the rest is as the checks after them ask
+  module _ (passed : v ≡ Passed) where
+    valid : (Valid G k bound) × (room ≡ true)
+    valid = passed-valid 512 G k bound room (omega arith) (sym ev ∙ passed)
+
+    pub sound : Sound G k bound
+    sound = valid-sound G k bound (valid .0)
+
+    pub rooms : (vertices G ≤ length table) × (k ≤ length order)
+    rooms =
+        let (a, b) = both (leb (vertices G) (length table)) (leb k (length order)) (sym er ∙ valid .1) in
+        (leb-true _ _ a, leb-true _ _ b)
+
+    pub tabled : Tabled (G .costs) (G .starts) (G .ends) (partsOf G table) k
+    unfolding partsOf
+    tabled =
+        record {
+          whole = length-take-le (vertices G) table (rooms .0);
+          few = sound .proper .few;
+          many = sound .proper .many;
+          same = sound .proper .formed .same-ends;
+          start-in = sound .proper .formed .start-in;
+          end-in = sound .proper .formed .end-in;
+          costly = sound .proper .costly;
+          parts-few = sound .few;
+        }
+
+    pub joins : tableOf (G .costs) (G .starts) (G .ends) k bound (partsOf G table) ≡ Passed → Joins (partsOf G table) (G .starts) (G .ends)
+    joins e = table-joins tabled (passed-fine G k bound (partsOf G table) (sound .proper) e .named)
+
+-- a refusal has a number above 0
+numbered : (cause : Cause) → numberOf cause ≡ 0 → ⊥
+numbered Vertices e = omega arith
+numbered Parts e = omega arith
+numbered Edges e = omega arith
+numbered Room e = omega arith
+numbered Cost e = omega arith
+numbered Ends e = omega arith
+numbered Repeat e = omega arith
+numbered Cycle e = omega arith
+numbered Uncut e = omega arith
+numbered Entry e = omega arith
+numbered Empty e = omega arith
+numbered Over e = omega arith
+numbered PartCycle e = omega arith
+numbered Length e = omega arith
+numbered Line e = omega arith
+numbered Lines e = omega arith
+
+told-passed : (v : Verdict) (values : List ℕ) → told v values .number ≡ 0 → v ≡ Passed
+told-passed Passed values e = refl
+told-passed (Refused cause place) values e = absurd (numbered cause e)
+
+-- DEMAND 2: for a valid graph, inspection passes a table (with an entry for each vertex, and room for the start order) exactly if it is fine
+pub inspection-exactly : (G : Graph) (k bound : ℕ) (table order : List ℕ) → Valid G k bound → vertices G ≤ length table → k ≤ length order
+    → (inspectOf G k bound table order .number ≡ 0) ↔ Fine G k bound (partsOf G table)
+unfolding inspectOf verdictOf
+inspection-exactly G k bound table order valid lt lo = (there, back)
+  where
+    checks : checked 512 G k bound (leb (vertices G) (length table) && leb k (length order)) ≡ Passed
+    checks = rw (le-leb _ _ lt, le-leb _ _ lo) valid
+
+    proper : Proper G
+    proper = valid-sound G k bound valid .proper
+
+    there : told (verdictOf G k bound table order) (cutOf G (partsOf G table) ∷ []) .number ≡ 0 → Fine G k bound (partsOf G table)
+    there e = passed-fine G k bound (partsOf G table) proper (rw checks at (told-passed (verdictOf G k bound table order) _ e))
+
+    back : Fine G k bound (partsOf G table) → told (verdictOf G k bound table order) (cutOf G (partsOf G table) ∷ []) .number ≡ 0
+    back F = rw (checks, fine-passed G k bound (partsOf G table) proper F)
