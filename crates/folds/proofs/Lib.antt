@@ -4,3 +4,6 @@ pub mod Searches
 pub mod Lists
 pub mod Loops
 pub mod Slices
+pub mod Counts
+pub mod Parts
+pub mod Extra

@@ -119,13 +119,13 @@ countTo-up a (suc b) p h t =
     either (last-or h) (λ e. rw (← e, t) (omega arith)) (λ l. omega (arith, countTo-up a b p l t))
 
 -- what p counts q counts, and v as well
-pub countTo-less : (n : ℕ) (p q : ℕ → Bool) (v : ℕ) → v < n → ((k : ℕ) → p k ≡ true → q k ≡ true) → p v ≡ false → q v ≡ true → countTo n p < countTo n q
+pub countTo-grows : (n : ℕ) (p q : ℕ → Bool) (v : ℕ) → v < n → ((k : ℕ) → p k ≡ true → q k ≡ true) → p v ≡ false → q v ≡ true → countTo n p < countTo n q
 unfolding countTo sumTo
-countTo-less zero p q v l h a b = absurd (not-suc-le-zero l)
-countTo-less (suc n) p q v l h a b =
+countTo-grows zero p q v l h a b = absurd (not-suc-le-zero l)
+countTo-grows (suc n) p q v l h a b =
     either (last-or l)
     (λ e. let x : p n ≡ false = rw (← e) a in let y : q n ≡ true = rw (← e) b in let m = sumTo-mono n (λ k. when (p k) 1) (λ k. when (q k) 1) (λ k _. when-more (p k) (q k) 1 (h k)) in rw (x, y) (omega arith))
-    (λ g. omega (arith, countTo-less n p q v g h a b, when-more (p n) (q n) 1 (h n)))
+    (λ g. omega (arith, countTo-grows n p q v g h a b, when-more (p n) (q n) 1 (h n)))
 
 -- p, and v as well
 unfoldable pub with : (ℕ → Bool) → ℕ → ℕ → Bool

@@ -1,4 +1,5 @@
 pub mod Walks
 pub mod Edges
 pub mod Rungs
+pub mod Rows
 pub mod Links

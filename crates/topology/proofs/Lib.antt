@@ -2,3 +2,4 @@ pub mod Waiting
 pub mod Orders
 pub mod Reaches
 pub mod Searching
+pub mod Levels

@@ -10,7 +10,7 @@ use lib.ListN.{length, getD}
 use borrow.Author.Tests.{eqb-true, eqb-false, eq-eqb, ne-eqb, ltb-true, ltb-false}
 use Rattle.folds.specs.Fold.{when, countTo, firstTo, anyTo, listTo}
 use Rattle.folds.proofs.Cases.{no-bool, by, either, one-of, or-l, or-r, both, both-i, not-yes, same-test}
-use Rattle.folds.proofs.Sums.{countTo-le, countTo-ext, countTo-less}
+use Rattle.folds.proofs.Sums.{countTo-le, countTo-ext, countTo-grows}
 use Rattle.folds.proofs.Searches.{firstTo-hit, firstTo-below, firstTo-least, firstTo-all, any-i, any-e, any-none}
 use Rattle.folds.proofs.Lists.{getD-listTo, length-listTo, listTo-ext, getD-past}
 use Rattle.graph.specs.Walk.{Walk, one, more, Cycle, Acyclic}
@@ -100,7 +100,7 @@ module _ (A : Arcs) (g v : ℕ) where
       (λ t.
       let (x, l, e) = any-e g _ t in
       let (new, old) = both (hit (set-of (suc r)) x) _ e in
-      inr (countTo-less g (hit (set-of r)) (hit (set-of (suc r))) x l (stays r) (not-yes _ old) new))
+      inr (countTo-grows g (hit (set-of r)) (hit (set-of (suc r))) x l (stays r) (not-yes _ old) new))
       (λ f. inl (listed-hits (suc r) ∙ listTo-ext g _ _ (λ x l. ap (λ (b : Bool). when b 1) (same-test (hit (set-of (suc r)) x) (hit (set-of r) x)
         (λ t. by (hit (set-of r) x) (λ h. h) (λ n. absurd (no-bool (sym (any-none g _ f x l) ∙ both-i (hit (set-of (suc r)) x) _ t (rw n refl)))))
         (stays r x))) ∙ sym (listed-hits r)))

@@ -1,0 +1,37 @@
+use Rattle.contraction.proofs.Naming.{Numbering, numbering-none, numbering-low, name-turn, name-at, cluster-low, joined-end}
+use Rattle.contraction.proofs.Next.{number}
+use Rattle.contraction.specs.Next.{mateIn, Named}
+use Rattle.folds.specs.Fold.{Filled, zeros}
+use Rattle.folds.proofs.Slices.{filled-none, filled-turn}
+use lib.ListN.{length, getD, length-set}
+use borrow.Author.Needs.{needs}
+use mathlib.Core.Path.{_≡_, refl, sym, ap, _∙_}
+use native.Mathlib.Omega.{arith}
+use Prim.Native.Nat.{ℕ, _≤_, _<_, _-_, _+_}
+use Rattle.folds.proofs.Cases.{cases}
+use Rattle.contraction.proofs.next_row.Statement.{statement}
+use Rattle.contraction.proofs.next_row.Tie as tie
+
+abbrev Inv-loop : tie.InvT-loop
+Inv-loop row mates out₀ names₀ count₀ v₀ out names count v = (v ≤ length row) × (length out ≡ 512) × Numbering row (mateIn mates) v names count × Filled out₀ out v (λ (w : ℕ). number row (mateIn mates) (getD row w 0))
+
+abbrev μ-loop : tie.MeasureT-loop
+μ-loop row mates out₀ names₀ count₀ v₀ out names count v = length row - v
+
+pub next-row-spec : {M : Type 1} → statement M
+unfolding zeros
+next-row-spec =
+    tie.close
+    (tie.spec Inv-loop μ-loop
+    (λ c. (omega arith, c .before .pre .1, numbering-none _ _, filled-none _ _))
+    (λ c κs. search needs)
+    (λ c κs. let p = c .before .before .before .before .before .pre in let l = c .before .before .before .loop in let k = c .before .at16 .ensures in ((p .0 .1, rw (k .is) (p .0 .0 .low _ (c .before .before .loop-test .taken))), (omega (arith, numbering-low (l .inv .2), p .0 .0 .few), l .inv .2 .tall)))
+    (λ c. omega (arith, cluster-low _ _ (c .before .before .before .before .before .before .pre .0 .0) (c .before .before .before .before .before .before .pre .0 .1) (c .before .before .before .loop-test .taken) (c .before .before .at16 .ensures)))
+    (λ c. cluster-low _ _ (c .before .before .before .before .before .before .pre .0 .0) (c .before .before .before .before .before .before .pre .0 .1) (c .before .before .before .loop-test .taken) (c .before .before .at16 .ensures))
+    (λ c. let p = c .before .before .before .before .before .before .pre .0 in let t = c .before .before .before .loop-test .taken in let k = c .before .before .at16 .ensures in omega (arith, name-at _ _ (p .0) (p .1) t k (name-turn _ _ (p .0) (p .1) t k (c .before .before .before .before .loop .inv .2) (c .name .ensures))))
+    (λ c. search needs)
+    (λ c. omega (arith, c .before .before .before .loop-test .taken, c .before .before .before .before .before .before .pre .0 .0 .few))
+    (λ c. search needs)
+    (λ c. search needs)
+    (λ c. let p = c .before .before .before .before .before .before .pre .0 in let t = c .before .before .before .loop-test .taken in let k = c .before .before .at16 .ensures in let l = c .before .before .before .before .loop in let N = name-turn _ _ (p .0) (p .1) t k (l .inv .2) (c .name .ensures) in (omega arith, length-set (l .out) _ _ ∙ l .inv .1, N, filled-turn (l .inv .3) (omega (arith, name-at _ _ (p .0) (p .1) t k N)) (omega (arith, l .inv .1, p .0 .few))))
+    (λ c. joined-end _ _ (c .before .before .before .pre .0 .0) (c .before .before .before .pre .0 .1) (c .before .loop .inv .0) (c .loop-test .left) (c .before .loop .inv .2) (c .before .loop .inv .3)))

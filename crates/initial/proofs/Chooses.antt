@@ -1,0 +1,63 @@
+-- The loop over the rows, from the highest down.
+use Prim.Native.Nat.{ℕ, suc, _+_, _-_, _*_, _≤_, _<_}
+use mathlib.Core.Path.{_≡_, refl, ap, _∙_}
+use mathlib.Core.List.{List}
+use native.Mathlib.Numerals.{add-one}
+use native.Mathlib.Omega.{arith}
+use lib.ListN.{length, take, drop}
+use Rattle.folds.specs.Fold.{over, part}
+use Rattle.folds.proofs.Lists.{row-in}
+use Rattle.graph.specs.Graph.{Graph}
+use Rattle.division.specs.Division.{Pick, none, some}
+use Rattle.initial.specs.Initial.{Chosen, found, uncut, orLower, highest, initialOf, chosenOf}
+use Rattle.initial.specs.Answers.{foundOf, tableAfter, Answers, rowsIn, Chooses, Lent}
+use Rattle.initial.specs.declared.Initial.the-variants.{At, Uncut}
+use Rattle.initial.specs.declared.Found.{Found}
+use Rattle.initial.specs.declared.Found.the-variants.{Cut, Nothing}
+
+-- what one row answers
+pub answers-cut : {p : Pick (List ℕ)} {old new : List ℕ} {r : Found} {c : ℕ} → Answers p old new r → r ≡ Cut c → (t : List ℕ) × (p ≡ some c t) × (new ≡ over t old)
+answers-cut {p} {old} {new} {r} {c} A e = go p (A .is) (A .table)
+  where
+    go : (p : Pick (List ℕ)) → r ≡ foundOf p → new ≡ tableAfter p old → (t : List ℕ) × (p ≡ some c t) × (new ≡ over t old)
+    go none q h = let z : _≡_ {A = ℕ} 0 1 = cc in absurd (omega arith)
+    go (some d t) q h = (t, cc, h)
+
+pub answers-nothing : {p : Pick (List ℕ)} {old new : List ℕ} {r : Found} → Answers p old new r → r ≡ Nothing → (p ≡ none) × (new ≡ old)
+answers-nothing {p} {old} {new} {r} A e = go p (A .is) (A .table)
+  where
+    go : (p : Pick (List ℕ)) → r ≡ foundOf p → new ≡ tableAfter p old → (p ≡ none) × (new ≡ old)
+    go none q h = (refl, h)
+    go (some d t) q h = let z : _≡_ {A = ℕ} 0 1 = cc in absurd (omega arith)
+
+-- row r is next
+module _ (f : ℕ → Pick (List ℕ)) (r : ℕ) (l : 0 < r) where
+  next-row : highest f r ≡ orLower (r - 1) (f (r - 1)) (highest f (r - 1))
+  unfolding highest
+  next-row = let q : r ≡ suc (r - 1) = omega arith in ap (highest f) q
+
+  pub row-hit : {x : Chosen} {old old′ new : List ℕ} {a : Found} {c : ℕ} → x ≡ highest f r → old′ ≡ old → Answers (f (r - 1)) old′ new a → a ≡ Cut c → Chooses x old new (At (r - 1) c)
+  row-hit {x} {old} {old′} {new} {a} {c} e o A h =
+      let (t, q, w) = answers-cut A h in
+      let z : x ≡ found (r - 1) t c = e ∙ next-row ∙ ap (λ p. orLower (r - 1) p (highest f (r - 1))) q in
+      rw z (record { is = refl; table = w ∙ ap (over t) o })
+
+  pub row-miss : {x : Chosen} {old old′ new : List ℕ} {a : Found} → x ≡ highest f r → old′ ≡ old → Answers (f (r - 1)) old′ new a → a ≡ Nothing → (new ≡ old) × (x ≡ highest f (r - 1))
+  row-miss {x} {old} {old′} {new} {a} e o A h =
+      let (q, w) = answers-nothing A h in (w ∙ o, e ∙ next-row ∙ ap (λ p. orLower (r - 1) p (highest f (r - 1))) q)
+
+pub rows-start : (G : Graph) (k bound : ℕ) (rows : ℕ → List ℕ) (top : ℕ) → chosenOf G k bound rows top ≡ highest (λ r. initialOf G k bound (rows r)) (top + 1)
+unfolding chosenOf
+rows-start G k bound rows top = rw add-one
+
+pub rows-end : (f : ℕ → Pick (List ℕ)) (r : ℕ) {x : Chosen} {old new : List ℕ} → r ≡ 0 → x ≡ highest f r → new ≡ old → Chooses x old new Uncut
+unfolding highest
+rows-end f r {x} z e o = let q : x ≡ uncut = e ∙ ap (highest f) z in rw q (record { is = refl; table = o })
+
+-- where row r lies, as the code takes it
+pub row-part : (rows : List ℕ) (n r : ℕ) → take (r * n + n - r * n) (drop (r * n) rows) ≡ rowsIn rows n r
+unfolding part
+row-part rows n r = let q : r * n + n - r * n ≡ n = omega arith in rw q
+
+pub lent-row : {n k top : ℕ} {rows table : List ℕ} (r : ℕ) → Lent n k top rows table → r ≤ top → r * n + n ≤ length rows
+lent-row {n} {k} {top} r L l = omega (arith, L .long, row-in r (suc top) n (omega arith))

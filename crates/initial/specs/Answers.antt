@@ -1,0 +1,48 @@
+-- What the code answers, by the definitions.
+use Prim.Native.Nat.{ℕ, suc, _*_, _<_, _≤_}
+use mathlib.Core.Path.{_≡_}
+use mathlib.Core.List.{List}
+use lib.ListN.{length}
+use Rattle.folds.specs.Fold.{over, part}
+use Rattle.division.specs.Division.{Pick, none, some}
+use Rattle.initial.specs.Initial.{Chosen, found, uncut}
+use Rattle.initial.specs.declared.Initial.{Initial}
+use Rattle.initial.specs.declared.Initial.the-variants.{At, Uncut}
+use Rattle.initial.specs.declared.Found.{Found}
+use Rattle.initial.specs.declared.Found.the-variants.{Cut, Nothing}
+
+abbrev pub foundOf : Pick (List ℕ) → Found
+foundOf none = Nothing
+foundOf (some c t) = Cut c
+
+-- the table afterwards: untouched where nothing is found
+abbrev pub tableAfter : Pick (List ℕ) → List ℕ → List ℕ
+tableAfter none old = old
+tableAfter (some c t) old = over t old
+
+pub record Answers (p : Pick (List ℕ)) (old new : List ℕ) (r : Found) : Type 0 where
+  pub is : r ≡ foundOf p
+  pub table : new ≡ tableAfter p old
+
+-- row r of the rows that lie end to end, of n entries each
+abbrev pub rowsIn : List ℕ → ℕ → ℕ → List ℕ
+rowsIn rows n r = part rows (r * n) n
+
+abbrev pub initialAs : Chosen → Initial
+initialAs uncut = Uncut
+initialAs (found r t c) = At r c
+
+abbrev pub chosenAfter : Chosen → List ℕ → List ℕ
+chosenAfter uncut old = old
+chosenAfter (found r t c) old = over t old
+
+pub record Chooses (x : Chosen) (old new : List ℕ) (r : Initial) : Type 0 where
+  pub is : r ≡ initialAs x
+  pub table : new ≡ chosenAfter x old
+
+-- rows 0 to top lie in the slice, and the table has an entry for each vertex
+pub record Lent (n k top : ℕ) (rows table : List ℕ) : Type 0 where
+  pub parts : (0 < k) × (k ≤ 16)
+  pub few : top < 9
+  pub long : suc top * n ≤ length rows
+  pub room : n ≤ length table

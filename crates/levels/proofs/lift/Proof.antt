@@ -1,0 +1,18 @@
+use Rattle.folds.proofs.Cases.{cases}
+use Rattle.levels.specs.Sweep.{raisedOf}
+use borrow.Author.Needs.{needs}
+use Rattle.levels.proofs.lift.Statement.{statement}
+use Rattle.levels.proofs.lift.Tie as tie
+
+pub lift-spec : {M : Type 1} → statement M
+unfolding raisedOf
+lift-spec =
+    tie.close
+    (tie.spec
+    (λ c. search cases)
+    (λ c. search needs)
+    (λ c. search needs)
+    (λ c. search needs)
+    (λ c. search needs)
+    (λ c. search cases)
+    (λ c. search cases))

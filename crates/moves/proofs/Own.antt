@@ -1,0 +1,191 @@
+-- The passes' own moves are a list of allowed moves of gain above 0, and the passes end.
+use Prim.Native.Nat.{ℕ, zero, suc, _+_, _-_, _≤_, _<_}
+use mathlib.Core.Path.{_≡_, refl, sym, ap, subst, _∙_}
+use mathlib.Core.Bool.{Bool, true, false}
+use mathlib.Core.Logic.{_⊎_, inl, inr}
+use mathlib.Core.List.{List, [], _∷_, _++_}
+use native.Mathlib.Nat.{not-suc-le-zero}
+use native.Mathlib.Omega.{arith}
+use lib.Dec.{eqb, ltb}
+use lib.IntN.{ℤ, pos, _+ℤ_}
+use lib.Signed.{ltZ}
+use borrow.Author.Tests.{eqb-true, eqb-false, eq-eqb, ne-eqb, ltb-true}
+use Rattle.folds.specs.Fold.{pick, when, turns}
+use Rattle.folds.proofs.Cases.{no-bool, by, either, eq-or-ne, when-le}
+use Rattle.graph.specs.Graph.{Graph, vertices, edges, cutOf, Proper}
+use Rattle.graph.specs.Rows.{clusters}
+use Rattle.moves.specs.Move.{movedTo, partOf, pull, gainTo, Allowed}
+use Rattle.moves.specs.Entries.{State, stateOf, Entry, move, down, step, after, AllAllowed, AllGain, cutAt, gain, gains, gaining, downs, Good}
+use Rattle.moves.specs.Pass.{target, Tally, tallyOf, settledAt, visited, passOf, measure, passes, repeated, refinedOn, refinedBelow}
+use Rattle.moves.specs.Own.{Took}
+use Rattle.moves.proofs.Signed.{above-zero}
+use Rattle.moves.proofs.Entries.{Nested, good-step, cut-allowed, cut-total}
+use Rattle.moves.proofs.Visits.{Chosen, target-chosen}
+
+-- one list after another
+module _ (G : Graph) (bound : ℕ) (rows : ℕ → List ℕ) where
+  after-append : (a b : List Entry) (s : State) → after rows (a ++ b) s ≡ after rows b (after rows a s)
+  after-append [] b s = refl
+  after-append (e ∷ a) b s = after-append a b (step rows e s)
+
+  allowed-append : (a b : List Entry) (s : State) → AllAllowed G bound rows a s → AllAllowed G bound rows b (after rows a s) → AllAllowed G bound rows (a ++ b) s
+  allowed-append [] b s p q = q
+  allowed-append (e ∷ a) b s p q = (p .0, allowed-append a b (step rows e s) (p .1) q)
+
+  gain-append : (a b : List Entry) (s : State) → AllGain G rows a s → AllGain G rows b (after rows a s) → AllGain G rows (a ++ b) s
+  gain-append [] b s p q = q
+  gain-append (e ∷ a) b s p q = (p .0, gain-append a b (step rows e s) (p .1) q)
+
+  gaining-append : (a b : List Entry) (s : State) → gaining G rows (a ++ b) s ≡ gaining G rows a s + gaining G rows b (after rows a s)
+  gaining-append [] b s = omega arith
+  gaining-append (e ∷ a) b s = omega (arith, gaining-append a b (step rows e s))
+
+  downs-append : (a b : List Entry) → downs (a ++ b) ≡ downs a + downs b
+  downs-append [] b = omega arith
+  downs-append (move h t ∷ a) b = downs-append a b
+  downs-append (down ∷ a) b = omega (arith, downs-append a b)
+
+  took-none : (a : State) → Took G bound rows a a 0 0
+  took-none a = record { list = []; allowed = tt; gain = tt; ends = refl; counted = refl; stepped = refl }
+
+  took-join : {a b c : State} {m n d e : ℕ} → Took G bound rows a b m d → Took G bound rows b c n e → Took G bound rows a c (m + n) (d + e)
+  took-join {a} {b} x y =
+      record {
+        list = x .list ++ y .list;
+        allowed = allowed-append (x .list) (y .list) a (x .allowed) (rw (x .ends) (y .allowed));
+        gain = gain-append (x .list) (y .list) a (x .gain) (rw (x .ends) (y .gain));
+        ends = after-append (x .list) (y .list) a ∙ rw (x .ends) (y .ends);
+        counted = gaining-append (x .list) (y .list) a ∙ rw (x .ends) (omega (arith, x .counted, y .counted));
+        stepped = downs-append (x .list) (y .list) ∙ omega (arith, x .stepped, y .stepped);
+      }
+
+  took-move : (s : State) (h t : ℕ) → Allowed G bound (rows (s .rung)) (s .parts) h t → ltZ (pos 0) (gainTo G (rows (s .rung)) (s .parts) h t) ≡ true
+      → Took G bound rows s (step rows (move h t) s) 1 0
+  took-move s h t a g =
+      record { list = move h t ∷ []; allowed = (a, tt); gain = (g, tt); ends = refl; counted = rw g; stepped = refl }
+
+  took-down : (r : ℕ) (parts : List ℕ) → Took G bound rows (stateOf (suc r) parts) (stateOf r parts) 0 1
+  took-down r parts =
+      let q : suc r - 1 ≡ r = omega arith in
+      record { list = down ∷ []; allowed = (omega arith, tt); gain = (tt, tt); ends = ap (λ (x : ℕ). stateOf x parts) q; counted = refl; stepped = refl }
+
+  -- without moves and without steps down, nothing changed
+  took-still : {a b : State} → Took G bound rows a b 0 0 → a ≡ b
+  took-still {a} {b} x = go (x .list) (x .gain) (x .ends) (x .counted) (x .stepped)
+    where
+      go : (es : List Entry) → AllGain G rows es a → after rows es a ≡ b → gaining G rows es a ≡ 0 → downs es ≡ 0 → a ≡ b
+      go [] g e c d = e
+      go (move h t ∷ es) g e c d = let z = rw (g .0) at c in absurd (omega arith)
+      go (down ∷ es) g e c d = absurd (omega arith)
+
+module _ (G : Graph) (P : Proper G) (k bound : ℕ) (rows : ℕ → List ℕ) (top : ℕ) (H : Nested G rows top) where
+  pub took-good : {a b : State} {m d : ℕ} → Good G k bound rows top a → Took G bound rows a b m d → Good G k bound rows top b
+  took-good {a} I x = rw (x .ends) at (cut-total G P k bound rows top H (x .list) a I (x .allowed) .0)
+
+  -- with each move of gain above 0 the cut falls
+  few-gains : (es : List Entry) (s : State) → Good G k bound rows top s → AllAllowed G bound rows es s → AllGain G rows es s → gaining G rows es s + cutAt G (after rows es s) ≤ cutAt G s
+  unfolding gainTo
+  few-gains [] s I a g = omega arith
+  few-gains (move h t ∷ es) s I a g =
+      let own = pull G (rows (s .rung)) (s .parts) h (partOf (rows (s .rung)) (s .parts) h) in
+      let new = pull G (rows (s .rung)) (s .parts) h t in
+      let s′ = step rows (move h t) s in
+      omega
+      (
+        arith,
+        few-gains es s′ (good-step G P k bound rows top H (move h t) s I (a .0)) (a .1) (g .1),
+        cut-allowed G P k bound rows top H s I h t,
+        ltb-true own new (sym (above-zero new own) ∙ g .0),
+        when-le (ltZ (pos 0) (gain G rows (move h t) s)) 1,
+      )
+  few-gains (down ∷ es) s I a g = omega (arith, few-gains es (step rows down s) (good-step G P k bound rows top H down s I (a .0)) (a .1) (g .1))
+
+  pub took-few : {a b : State} {m d : ℕ} → Good G k bound rows top a → Took G bound rows a b m d → m + cutAt G b ≤ cutAt G a
+  took-few {a} I x = rw (← x .counted, ← x .ends) (few-gains (x .list) a I (x .allowed) (x .gain))
+
+  -- what the work on rung r makes of s
+  pub record Steps (r : ℕ) (s s′ : Tally) : Type 0 where
+    pub made : ℕ
+    pub took : Took G bound rows (stateOf r (s .parts)) (stateOf r (s′ .parts)) made 0
+    pub count : s′ .moves ≡ s .moves + made
+
+  steps-none : (r : ℕ) (s : Tally) → Steps r s s
+  steps-none r s = record { made = 0; took = took-none G bound rows (stateOf r (s .parts)); count = omega arith }
+
+  steps-join : (r : ℕ) (s t u : Tally) → Steps r s t → Steps r t u → Steps r s u
+  steps-join r s t u x y =
+      record { made = x .made + y .made; took = took-join G bound rows (x .took) (y .took); count = omega (arith, x .count, y .count) }
+
+  pub steps-good : {r : ℕ} {s t : Tally} → Good G k bound rows top (stateOf r (s .parts)) → Steps r s t → Good G k bound rows top (stateOf r (t .parts))
+  steps-good I x = took-good I (x .took)
+
+  -- each move lowers the measure
+  pub steps-fall : {r : ℕ} {s t : Tally} → Good G k bound rows top (stateOf r (s .parts)) → Steps r s t → t .moves + measure G (t .parts) ≤ s .moves + measure G (s .parts)
+  unfolding measure
+  steps-fall I x = omega (arith, took-few I (x .took), x .count)
+
+  steps-still : (r : ℕ) (s t : Tally) → Steps r s t → t .moves ≡ s .moves → t ≡ s
+  steps-still r s t x e =
+      let z : x .made ≡ 0 = omega (arith, x .count) in
+      let q = took-still G bound rows (rw z at (x .took)) in
+      let p : s .parts ≡ t .parts = ap (λ (y : State). y .parts) q in
+      sym (rw (p, ← e))
+
+  -- a visit, a pass, and the passes on rung r
+  pub visit-steps : (r h : ℕ) (s : Tally) → h < clusters (rows r) → Steps r s (visited G k bound (rows r) h s)
+  unfolding visited settledAt
+  visit-steps r h s l =
+      either (eq-or-ne (target G k bound (rows r) (s .parts) h) (partOf (rows r) (s .parts) h))
+      (λ e. rw (eq-eqb _ _ e) (steps-none r s))
+      (λ n. rw (ne-eqb _ _ n)
+        (either (target-chosen G (rows r) (s .parts) h bound k l) (λ e. absurd (n e))
+        (λ w. record { made = 1; took = took-move G bound rows (stateOf r (s .parts)) h (target G k bound (rows r) (s .parts) h) (w .0) (w .1); count = refl })))
+
+  pub turn-steps : (r i : ℕ) (s : Tally) → i ≤ clusters (rows r) → Steps r s (turns i (visited G k bound (rows r)) s)
+  unfolding turns
+  turn-steps r zero s l = steps-none r s
+  turn-steps r (suc i) s l =
+      let t = turns i (visited G k bound (rows r)) s in
+      steps-join r s t (visited G k bound (rows r) i t) (turn-steps r i s (omega arith)) (visit-steps r i t l)
+
+  pub pass-steps : (r : ℕ) (s : Tally) → Steps r s (passOf G k bound (rows r) s)
+  unfolding passOf
+  pass-steps r s = turn-steps r (clusters (rows r)) s (omega arith)
+
+  pub pass-still : (r : ℕ) (s : Tally) → passOf G k bound (rows r) s .moves ≡ s .moves → passOf G k bound (rows r) s ≡ s
+  pass-still r s e = steps-still r s (passOf G k bound (rows r) s) (pass-steps r s) e
+
+  repeat-steps : (r fuel : ℕ) (s : Tally) → Steps r s (repeated G k bound (rows r) fuel s)
+  unfolding repeated
+  repeat-steps r zero s = steps-none r s
+  repeat-steps r (suc fuel) s =
+      by (eqb (passOf G k bound (rows r) s .moves) (s .moves)) (λ e. rw e (steps-none r s))
+      (λ e. rw e (steps-join r s (passOf G k bound (rows r) s) _ (pass-steps r s) (repeat-steps r fuel (passOf G k bound (rows r) s))))
+
+  pub refined-steps : (r : ℕ) (s : Tally) → Steps r s (refinedOn G k bound (rows r) s)
+  unfolding refinedOn
+  refined-steps r s = repeat-steps r (passes G (s .parts)) s
+
+  -- a pass that moves something lowers the measure
+  pub pass-falls : (r : ℕ) (s : Tally) → Good G k bound rows top (stateOf r (s .parts)) → (passOf G k bound (rows r) s .moves ≡ s .moves → ⊥)
+      → measure G (passOf G k bound (rows r) s .parts) < measure G (s .parts)
+  pass-falls r s I n = let x = pass-steps r s in omega (arith, steps-fall I x, x .count)
+
+  pub repeat-ends : (r fuel : ℕ) (s : Tally) → Good G k bound rows top (stateOf r (s .parts)) → measure G (s .parts) < fuel
+      → passOf G k bound (rows r) (repeated G k bound (rows r) fuel s) ≡ repeated G k bound (rows r) fuel s
+  unfolding repeated
+  repeat-ends r zero s I l = absurd (not-suc-le-zero l)
+  repeat-ends r (suc fuel) s I l =
+      by (eqb (passOf G k bound (rows r) s .moves) (s .moves)) (λ e. rw e (pass-still r s (eqb-true _ _ e)))
+      (λ e. rw e (repeat-ends r fuel (passOf G k bound (rows r) s) (steps-good I (pass-steps r s)) (omega (arith, pass-falls r s I (eqb-false _ _ e)))))
+
+  -- down the rungs
+  pub own-from : (r : ℕ) (s : Tally) → (made : ℕ) × Took G bound rows (stateOf r (s .parts)) (stateOf 0 (refinedBelow G k bound rows (suc r) s .parts)) made r × (refinedBelow G k bound rows (suc r) s .moves ≡ s .moves + made)
+  unfolding refinedBelow
+  own-from zero s = let x = refined-steps 0 s in (x .made, x .took, x .count)
+  own-from (suc r) s =
+      let x = refined-steps (suc r) s in
+      let t = refinedOn G k bound (rows (suc r)) s in
+      let (n, y, c) = own-from r t in
+      let z = took-join G bound rows (x .took) (took-join G bound rows (took-down G bound rows r (t .parts)) y) in
+      let p : 0 + (1 + r) ≡ suc r = omega arith in (x .made + (0 + n), rw p at z, omega (arith, x .count))

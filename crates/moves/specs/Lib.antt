@@ -1,0 +1,4 @@
+pub mod Move
+pub mod Entries
+pub mod Pass
+pub mod Own

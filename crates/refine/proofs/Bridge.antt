@@ -1,0 +1,212 @@
+-- The work of the code on a rung is the definitions' passes, and the record stays the sums of the table.
+use Prim.Native.Nat.{ℕ, zero, suc, _+_, _-_, _≤_, _<_}
+use mathlib.Core.Path.{_≡_, refl, sym, ap, ap₂, _∙_}
+use mathlib.Core.Bool.{Bool, true, false, not, _&&_}
+use mathlib.Core.List.{List}
+use native.Mathlib.Omega.{arith}
+use lib.Dec.{eqb, ltb, leb}
+use lib.ListN.{length, getD, set, length-set}
+use lib.Seq.{getD-set-same, getD-set-other}
+use lib.Signed.{ltZ}
+use borrow.Author.Tests.{eqb-true, eqb-false, eq-eqb, ne-eqb, ltb-true, leb-true, lt-ltb, le-ltb}
+use Rattle.folds.specs.Fold.{pick, when, sumTo, anyTo, listTo, turns}
+use Rattle.folds.proofs.Cases.{by, both, either, eq-or-ne, same-test}
+use Rattle.folds.proofs.Sums.{sumTo-ext, sumTo-add, sumTo-none, sumTo-member}
+use Rattle.folds.proofs.Searches.{any-e, any-none}
+use Rattle.folds.proofs.Lists.{listTo-ext}
+use Rattle.graph.specs.Graph.{Graph, vertices, costIn, partCost, through, Formed, Proper}
+use Rattle.graph.specs.Rows.{clusters}
+use Rattle.graph.proofs.Edges.{through-at, length-through}
+use Rattle.moves.specs.Move.{partSize, movedTo, partOf, pull, gainTo}
+use Rattle.moves.specs.Pass.{lowestNext, aboveBefore, stays, allows, tried, goesBack, target, Tally, tallyOf, settledAt, visited, passOf}
+use Rattle.moves.proofs.Move.{cost-new, cost-old, cost-third}
+use Rattle.moves.proofs.Signed.{less-gain}
+use Rattle.moves.proofs.Entries.{first-of, length-moved, moved-at}
+use Rattle.visit.specs.Visit.{Placed}
+use Rattle.refine.specs.declared.PartSums.{PartSums}
+use Rattle.refine.specs.Sums.{SumsOf, sumsAllow, shifted}
+use Rattle.refine.specs.Work.{betterOf, backOf, choiceOf, Work, net, choiceAt, movedBy, worked}
+use Rattle.refine.proofs.Sums.{shifted-sums}
+use Rattle.refine.proofs.Work.{placed-set, choice-below}
+
+-- the part of a cluster, and a move, through the clusters' table
+pub part-through : (row table : List ℕ) (h v : ℕ) → v < length row → getD row v 0 ≡ h → partOf row (through row table) h ≡ getD table h 0
+part-through row table h v l e =
+    let (a, la, ea, q) = first-of row h v l e in q (through row table) ∙ through-at row table a la ∙ ap (λ (x : ℕ). getD table x 0) ea
+
+pub moved-through : (row table : List ℕ) (h t : ℕ) → h < length table → movedTo row h t (through row table) ≡ through row (set table h t)
+unfolding movedTo through
+moved-through row table h t l = rw (length-through row table) (listTo-ext (length row) _ _ one)
+  where
+    one : (v : ℕ) → v < length row → pick (eqb (getD row v 0) h) t (getD (through row table) v 0) ≡ getD (set table h t) (getD row v 0) 0
+    one v lv =
+        either (eq-or-ne (getD row v 0) h)
+        (λ e. rw (e, eq-eqb h h refl) (sym (getD-set-same table h t 0 l)))
+        (λ n. rw (ne-eqb (getD row v 0) h n, through-at row table v lv) (sym (getD-set-other table h (getD row v 0) t 0 n)))
+
+-- something is found exactly if the sum over what is found is above 0
+any-sum : (n : ℕ) (p : ℕ → Bool) (c : ℕ → ℕ) → ((v : ℕ) → v < n → 0 < c v) → anyTo n p ≡ ltb 0 (sumTo n (λ v. when (p v) (c v)))
+any-sum n p c pos =
+    by (anyTo n p)
+    (λ t. let (v, l, e) = any-e n p t in
+      let m : when (p v) (c v) ≤ sumTo n (λ i. when (p i) (c i)) = sumTo-member n (λ i. when (p i) (c i)) v l in
+      rw t (sym (lt-ltb 0 (sumTo n (λ i. when (p i) (c i))) (let w = rw e at m in omega (arith, pos v l)))))
+    (λ t. rw t (sym (le-ltb 0 (sumTo n (λ i. when (p i) (c i))) (omega (arith, sumTo-none n (λ i. when (p i) (c i)) (λ v l. rw (any-none n p t v l)))))))
+
+and-swap : (a b : Bool) → (a && b) ≡ (b && a)
+and-swap true true = refl
+and-swap true false = refl
+and-swap false true = refl
+and-swap false false = refl
+
+-- where all vertices of h have the part s, and costs are above 0: some vertex of s is outside h exactly if s costs more than h
+module _ (G : Graph) (P : Proper G) (row parts : List ℕ) (h s : ℕ) (all : (v : ℕ) → v < vertices G → getD row v 0 ≡ h → getD parts v 0 ≡ s) where
+  outside : ℕ → ℕ
+  outside v = when (eqb (getD parts v 0) s && not (eqb (getD row v 0) h)) (getD (G .costs) v 0)
+
+  cost-split : partCost (G .costs) parts s ≡ partCost (G .costs) row h + sumTo (vertices G) outside
+  unfolding partCost costIn outside
+  cost-split = sumTo-ext (vertices G) _ _ (λ v l. one v l) ∙ sumTo-add (vertices G) _ _
+    where
+      split : (r q : Bool) (c : ℕ) → (r ≡ true → q ≡ true) → when q c ≡ when r c + when (q && not r) c
+      split true true c i = omega arith
+      split true false c i = let z = i refl in absurd (let y : _≡_ {A = ℕ} 0 1 = cc in omega arith)
+      split false true c i = omega arith
+      split false false c i = refl
+
+      one : (v : ℕ) → v < vertices G
+          → when (eqb (getD parts v 0) s) (getD (G .costs) v 0) ≡ when (eqb (getD row v 0) h) (getD (G .costs) v 0) + when (eqb (getD parts v 0) s && not (eqb (getD row v 0) h)) (getD (G .costs) v 0)
+      one v l = split (eqb (getD row v 0) h) (eqb (getD parts v 0) s) (getD (G .costs) v 0) (λ t. eq-eqb _ _ (all v l (eqb-true _ _ t)))
+
+  stays-sum : partOf row parts h ≡ s → stays G row parts h ≡ ltb (partCost (G .costs) row h) (partCost (G .costs) parts s)
+  unfolding stays outside
+  stays-sum e =
+      rw (e, cost-split)
+      (any-sum (vertices G) (λ v. eqb (getD parts v 0) s && not (eqb (getD row v 0) h)) (λ v. getD (G .costs) v 0) (P .costly)
+      ∙ same-test (ltb 0 rest) (ltb own (own + rest)) (λ t. let l = ltb-true 0 rest t in lt-ltb own (own + rest) (omega arith)) (λ t. let l = ltb-true own (own + rest) t in lt-ltb 0 rest (omega arith)))
+    where
+      own : ℕ
+      own = partCost (G .costs) row h
+
+      rest : ℕ
+      rest = sumTo (vertices G) outside
+
+-- the code's work w stands for s: its table and moves, and the record is the sums of the table
+pub record Follows (G : Graph) (k : ℕ) (row : List ℕ) (w : Work) (s : Tally) : Type 0 where
+  pub is : tallyOf (through row (w .table)) (w .moves) ≡ s
+  pub sums : SumsOf (G .costs) (through row (w .table)) k (w .sums)
+  pub placed : Placed (w .table)
+
+-- one cluster h of a row, with a vertex of it
+module _ (G : Graph) (P : Proper G) (k bound : ℕ) (row costs : List ℕ) (whole : length row ≡ vertices G) (few : k ≤ 16)
+    (h : ℕ) (in-table : h < 512) (cost-is : getD costs h 0 ≡ partCost (G .costs) row h) (some : (v : ℕ) × (v < vertices G) × (getD row v 0 ≡ h))
+    (w : Work) (placed : Placed (w .table)) (R : SumsOf (G .costs) (through row (w .table)) k (w .sums)) where
+  parts : List ℕ
+  parts = through row (w .table)
+
+  own : ℕ
+  own = getD (w .table) h 0
+
+  cost : ℕ
+  cost = getD costs h 0
+
+  own-is : partOf row parts h ≡ own
+  unfolding parts own
+  own-is = let (v, l, e) = some in part-through row (w .table) h v (omega arith) e
+
+  own-low : own < 16
+  unfolding own
+  own-low = placed .low h in-table
+
+  all : (v : ℕ) → v < vertices G → getD row v 0 ≡ h → getD parts v 0 ≡ own
+  unfolding parts own
+  all v l e = through-at row (w .table) v (omega arith) ∙ ap (λ (x : ℕ). getD (w .table) x 0) e
+
+  upd : (t v : ℕ) → v < vertices G → getD (movedTo row h t parts) v 0 ≡ pick (eqb (getD row v 0) h) t (getD parts v 0)
+  unfolding parts
+  upd t v l = moved-at row h t parts v (omega (arith, length-through row (w .table)))
+
+  allows-sums : (t : ℕ) → (own ≡ t → ⊥) → t < 16 → allows G bound row parts h t ≡ sumsAllow (w .sums) own t cost bound
+  unfolding allows partSize sumsAllow parts cost
+  allows-sums t n l =
+      rw (stays-sum G P row parts h own all own-is, cost-new G (P .formed) row parts (movedTo row h t parts) h own t all (upd t) n, R .is own own-low, R .is t l, cost-is)
+      (and-swap (leb (partCost (G .costs) parts t + partCost (G .costs) row h) bound) (ltb (partCost (G .costs) row h) (partCost (G .costs) parts own)))
+
+  tried-better : (candidate : Bool) (t best : ℕ) → (candidate ≡ true → (own ≡ t → ⊥) × (t < 16)) → tried G bound row parts h candidate t best ≡ betterOf (pull G row parts h) (w .sums) own cost bound candidate t best
+  unfolding tried betterOf gainTo
+  tried-better false t best c = refl
+  tried-better true t best c =
+      let (n, l) = c refl in rw (less-gain (pull G row parts h best) (pull G row parts h t) (pull G row parts h (partOf row parts h)), allows-sums t n l)
+
+  choice-counted : choiceAt (net (G .starts) (G .ends) (G .widths)) row costs bound h w ≡ target G (w .sums .count) bound row parts h
+  unfolding choiceAt choiceOf backOf target goesBack lowestNext aboveBefore pull parts own cost
+  choice-counted =
+      sym
+      (rw own-is
+      (tried-better (ltb own low && ltb low (w .sums .count)) low _ (λ t.
+        let (a, b) = both (ltb own low) _ t in
+        let la = ltb-true own low a in
+        let lb = ltb-true low (w .sums .count) b in ((λ e. omega arith), omega (arith, R .counts)))
+      ∙ ap (λ (x : ℕ). betterOf (pull G row parts h) (w .sums) own cost bound (ltb own low && ltb low (w .sums .count)) low x)
+        (tried-better (ltb 0 high && leb high own) (high - 1) own (λ t.
+          let (a, b) = both (ltb 0 high) _ t in
+          let la = ltb-true 0 high a in
+          let lb = leb-true high own b in ((λ e. omega arith), omega (arith, own-low))))))
+    where
+      low : ℕ
+      low = lowestNext G (w .sums .count) row parts h
+
+      high : ℕ
+      high = aboveBefore G row parts h
+
+  -- the code's choice is the definitions'
+  choice-target : choiceAt (net (G .starts) (G .ends) (G .widths)) row costs bound h w ≡ target G k bound row parts h
+  choice-target = choice-counted ∙ ap (λ (x : ℕ). target G x bound row parts h) (R .counts)
+
+  choice-low : choiceAt (net (G .starts) (G .ends) (G .widths)) row costs bound h w < 16
+  unfolding choiceAt own
+  choice-low = choice-below _ _ (w .sums) own (getD costs h 0) bound (λ u l. refl) _ _ own-low (omega (arith, R .counts))
+
+  pub worked-visited : Follows G k row (worked (net (G .starts) (G .ends) (G .widths)) row costs bound h w) (visited G k bound row h (tallyOf (through row (w .table)) (w .moves)))
+  unfolding worked movedBy visited settledAt parts own
+  worked-visited =
+      rw (choice-target, own-is)
+      (either (eq-or-ne t own) (λ e. rw (eq-eqb t own e) (record { is = refl; sums = R; placed = placed }))
+      (λ n. rw (ne-eqb t own n)
+        (record {
+          is = ap (λ (l : List ℕ). tallyOf l (w .moves + 1)) (sym (moved-through row (w .table) h t (omega (arith, placed .long))));
+          sums = rw (← moved-through row (w .table) h t (omega (arith, placed .long)), cost-is)
+            (shifted-sums (w .sums) own t (partCost (G .costs) row h) 0 R (λ e. n (sym e)) own-low low
+              (cost-old G (P .formed) row parts (movedTo row h t parts) h own t all (upd t) (λ e. n (sym e)))
+              (cost-new G (P .formed) row parts (movedTo row h t parts) h own t all (upd t) (λ e. n (sym e)))
+              (cost-third G (P .formed) row parts (movedTo row h t parts) h own t all (upd t)));
+          placed = placed-set h t placed low;
+        })))
+    where
+      t : ℕ
+      t = target G k bound row parts h
+
+      low : t < 16
+      low = rw (← choice-target) choice-low
+
+-- a row with a vertex in each of its clusters, and the clusters' costs
+pub record Priced (G : Graph) (row costs : List ℕ) : Type 0 where
+  pub whole : length row ≡ vertices G
+  pub few : clusters row ≤ 512
+  pub onto : (c : ℕ) → c < clusters row → (v : ℕ) × (v < vertices G) × (getD row v 0 ≡ c)
+  pub cost : (c : ℕ) → c < clusters row → getD costs c 0 ≡ partCost (G .costs) row c
+
+-- the code's pass is the definitions'
+module _ (G : Graph) (P : Proper G) (k bound : ℕ) (few : k ≤ 16) (row costs : List ℕ) (R : Priced G row costs) where
+  turns-visited : (i : ℕ) → i ≤ clusters row → (w : Work) (s : Tally) → Follows G k row w s
+      → Follows G k row (turns i (worked (net (G .starts) (G .ends) (G .widths)) row costs bound) w) (turns i (visited G k bound row) s)
+  unfolding turns
+  turns-visited zero l w s f = f
+  turns-visited (suc i) l w s f =
+      let g = turns-visited i (omega arith) w s f in
+      rw (← g .is) (worked-visited G P k bound row costs (R .whole) few i (omega (arith, R .few)) (R .cost i l) (R .onto i l) _ (g .placed) (g .sums))
+
+  pub pass-follows : (w : Work) (s : Tally) → Follows G k row w s
+      → Follows G k row (turns (clusters row) (worked (net (G .starts) (G .ends) (G .widths)) row costs bound) w) (passOf G k bound row s)
+  unfolding passOf
+  pass-follows w s f = turns-visited (clusters row) (omega arith) w s f

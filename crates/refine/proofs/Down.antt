@@ -1,0 +1,144 @@
+-- Down the rungs, one row at a time.
+use Prim.Native.Nat.{ℕ, zero, suc, _+_, _-_, _*_, _≤_, _<_, _^_}
+use mathlib.Core.Path.{_≡_, refl, sym, ap, subst, _∙_}
+use mathlib.Core.List.{List, _++_}
+use native.Mathlib.Nat.{le-mul-of-pos-right, mul-le-mul-right}
+use native.Mathlib.Omega.{arith}
+use lib.ListN.{length, getD, take, drop}
+use lib.Seq.{take-at}
+use Rattle.folds.specs.Fold.{sumTo, over, part}
+use Rattle.folds.proofs.Sums.{sumTo-le}
+use Rattle.folds.proofs.Lists.{row-in}
+use Rattle.graph.specs.Graph.{Graph, vertices, edges, seen, crossing, cut, cutOf, Proper}
+use Rattle.graph.specs.Links.{Joins}
+use Rattle.graph.specs.Rows.{clusters, Hierarchy}
+use Rattle.graph.proofs.Edges.{crossing-le}
+use Rattle.moves.specs.Entries.{State, stateOf, Good}
+use Rattle.moves.specs.Pass.{Tally, tallyOf, measure, refinedOn, refinedBelow, refined}
+use Rattle.moves.proofs.Entries.{nested, good-down}
+use Rattle.moves.proofs.Own.{refined-steps, steps-good, steps-fall}
+use Rattle.moves.proofs.Claims.{refined-good}
+use Rattle.refine.specs.Rung.{Ready}
+use Rattle.refine.specs.Down.{rowsIn, Descends, Refined}
+use Rattle.refine.proofs.Rung.{proper-joins}
+
+-- the rungs below r are still to come, and make R of the table
+pub record Descent (G : Graph) (k bound : ℕ) (rows : ℕ → List ℕ) (top : ℕ) (R : Tally) (r : ℕ) (parts : List ℕ) (moves : ℕ) : Type 0 where
+  pub within : r ≤ suc top
+  pub good : Good G k bound rows top (stateOf (r - 1) parts)
+  pub rest : refinedBelow G k bound rows r (tallyOf parts moves) ≡ R
+  pub room : moves + measure G parts < 2 ^ 32
+
+pub measure-small : (G : Graph) (parts : List ℕ) → edges G ≤ 1024 → ((j : ℕ) → getD (G .widths) j 0 ≤ 65535) → measure G parts < 2 ^ 32
+unfolding measure cut
+measure-small G parts m w = omega (arith, sumTo-le (edges G) 65535 (crossing (seen G parts) (G .widths)) (crossing-le (seen G parts) (G .widths) 65535 w))
+
+module _ (G : Graph) (P : Proper G) (k bound : ℕ) (few : k ≤ 16) (rows : ℕ → List ℕ) (top : ℕ) (H : Hierarchy G rows top) where
+  pub descent-start : (parts : List ℕ) → Good G k bound rows top (stateOf top parts) → ((j : ℕ) → getD (G .widths) j 0 ≤ 65535)
+      → Descent G k bound rows top (refined G k bound rows top parts) (top + 1) parts 0
+  unfolding refined
+  descent-start parts I w =
+      let e : top + 1 ≡ suc top = omega arith in
+      let d : top ≡ suc top - 1 = omega arith in
+      rw e
+      (record {
+        within = omega arith;
+        good = subst (λ (x : ℕ). Good G k bound rows top (stateOf x parts)) d I;
+        rest = refl;
+        room = omega (arith, measure-small G parts (P .many) w);
+      })
+
+  good-alone : {r : ℕ} {parts : List ℕ} → Good G k bound rows top (stateOf r parts) → Good G k bound (λ i. rows r) 0 (stateOf 0 parts)
+  good-alone I =
+      record { kept = omega arith; whole = I .whole; below = I .below; shared = I .shared; forward = I .forward; filled = I .filled; within = I .within }
+
+  good-lower : (r : ℕ) (parts : List ℕ) → Good G k bound rows top (stateOf r parts) → Good G k bound rows top (stateOf (r - 1) parts)
+  good-lower zero parts I = I
+  good-lower (suc r) parts I =
+      let d : r ≡ suc r - 1 = omega arith in
+      subst (λ (x : ℕ). Good G k bound rows top (stateOf x parts)) d (good-down G P k bound rows top (nested H) (stateOf (suc r) parts) r refl I)
+
+  module _ (R : Tally) (r : ℕ) (parts : List ℕ) (moves : ℕ) (x : Descent G k bound rows top R r parts moves) where
+    pub descent-ready : 0 < r → Ready G k bound (rows (r - 1)) parts moves
+    descent-ready l =
+        let q : r - 1 ≤ top = omega (arith, x .within) in
+        record { proper = P; row-of = H .row (r - 1) q; onto = H .onto (r - 1) q; good = good-alone (x .good); few = few; room = x .room }
+
+    pub descent-turn : (parts′ : List ℕ) (moves′ : ℕ) → 0 < r → tallyOf parts′ moves′ ≡ refinedOn G k bound (rows (r - 1)) (tallyOf parts moves) → Descent G k bound rows top R (r - 1) parts′ moves′
+    unfolding refinedBelow
+    descent-turn parts′ moves′ l e =
+        let steps = refined-steps G P k bound rows top (nested H) (r - 1) (tallyOf parts moves) in
+        let good = steps-good G P k bound rows top (nested H) {s = tallyOf parts moves} (x .good) steps in
+        let fall = steps-fall G P k bound rows top (nested H) {s = tallyOf parts moves} (x .good) steps in
+        let p : parts′ ≡ refinedOn G k bound (rows (r - 1)) (tallyOf parts moves) .parts = ap (λ (t : Tally). t .parts) e in
+        let m : moves′ ≡ refinedOn G k bound (rows (r - 1)) (tallyOf parts moves) .moves = ap (λ (t : Tally). t .moves) e in
+        let d : r ≡ suc (r - 1) = omega arith in
+        record {
+          within = omega (arith, x .within);
+          good = good-lower (r - 1) parts′ (rw p good);
+          rest = rw e (subst (λ (i : ℕ). refinedBelow G k bound rows i (tallyOf parts moves) ≡ R) d (x .rest));
+          room = rw (p, m) (omega (arith, fall, x .room));
+        }
+
+    pub descent-end : r ≡ 0 → tallyOf parts moves ≡ R
+    unfolding refinedBelow
+    descent-end e = rw e at (x .rest)
+
+-- row r - 1 of the ladder is in it
+pub row-held : (r rung n l : ℕ) → 0 < r → r ≤ suc rung → suc rung * n ≤ l → (r - 1) * n + n ≤ l
+row-held r rung n l a b h = omega (arith, row-in (r - 1) (suc rung) n (omega arith))
+
+pub rung-held : (rung n l : ℕ) → 0 < n → suc rung * n ≤ l → rung + 1 ≤ l
+rung-held rung n l a h = omega (arith, le-mul-of-pos-right (suc rung) a)
+
+pub row-part : (l : List ℕ) (a n : ℕ) → take (a + n - a) (drop a l) ≡ part l a n
+unfolding part
+row-part l a n = let e : a + n - a ≡ n = omega arith in rw e
+
+-- the caller's table, of which the front was refined
+module _ {G : Graph} {k bound : ℕ} {ladder : List ℕ} {rung : ℕ} (table : List ℕ) (D : Descends G k bound ladder rung (take (vertices G) table))
+    (parts : List ℕ) {moves : ℕ} (e : tallyOf parts moves ≡ refined G k bound (rowsIn ladder (vertices G)) rung (take (vertices G) table)) where
+  good : Good G k bound (rowsIn ladder (vertices G)) rung (stateOf 0 parts)
+  good = rw (ap (λ (t : Tally). t .parts) e) (refined-good G (D .proper) k bound (rowsIn ladder (vertices G)) rung (D .hierarchy) rung (take (vertices G) table) (D .good))
+
+  front : take (vertices G) (parts ++ drop (vertices G) table) ≡ parts
+  front = take-at parts (drop (vertices G) table) (vertices G) (good .whole)
+
+  pub front-long : vertices G ≡ length (take (vertices G) (parts ++ drop (vertices G) table))
+  front-long = sym (ap length front ∙ good .whole)
+
+  pub front-joins : Joins (take (vertices G) (parts ++ drop (vertices G) table)) (G .starts) (G .ends) × (length (G .widths) ≡ length (G .starts))
+  front-joins =
+      (rw front (proper-joins (D .proper) parts (good .whole) (λ v l. omega (arith, good .below v (omega (arith, good .whole)), D .few))), D .proper .formed .same-widths)
+
+  pub front-refined : {r : ℕ} → r ≡ cutOf G (take (vertices G) (parts ++ drop (vertices G) table)) → Refined G k bound ladder rung table (parts ++ drop (vertices G) table) (record { cut = r; moves = moves })
+  unfolding over
+  front-refined h =
+      record {
+        table-is = rw (← ap (λ (t : Tally). t .parts) e, good .whole);
+        moves-is = ap (λ (t : Tally). t .moves) e;
+        cut-is = h ∙ ap (cutOf G) (front ∙ ap (λ (t : Tally). t .parts) e);
+      }
+
+-- the rows up to a lower rung
+pub lower-top : {G : Graph} {rows : ℕ → List ℕ} {top rung : ℕ} → Hierarchy G rows top → rung ≤ top → Hierarchy G rows rung
+lower-top H l =
+    record {
+      bottom = H .bottom;
+      row = λ r h. H .row r (omega arith);
+      onto = λ r h. H .onto r (omega arith);
+      acyclic = λ r h. H .acyclic r (omega arith);
+      refines = λ r h. H .refines r (omega arith);
+    }
+
+-- what a caller has: a good table on one of the kept rungs
+pub descends : {G : Graph} {k bound : ℕ} {ladder : List ℕ} {top rung : ℕ} {parts : List ℕ} → Proper G → Hierarchy G (rowsIn ladder (vertices G)) top → suc top * vertices G ≤ length ladder
+    → Good G k bound (rowsIn ladder (vertices G)) top (stateOf rung parts) → k ≤ 16 → Descends G k bound ladder rung parts
+descends {G} {top = top} {rung = rung} P H held I few =
+    record {
+      proper = P;
+      hierarchy = lower-top H (I .kept);
+      good = record { kept = omega arith; whole = I .whole; below = I .below; shared = I .shared; forward = I .forward; filled = I .filled; within = I .within };
+      few = few;
+      held = let m : suc rung ≤ suc top = omega (arith, I .kept) in omega (arith, mul-le-mul-right (vertices G) m);
+    }

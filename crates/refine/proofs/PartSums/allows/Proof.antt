@@ -1,0 +1,16 @@
+use Rattle.refine.proofs.Sums.{allow-empties, allow-over, allow-last}
+use borrow.Author.Needs.{needs}
+use Rattle.refine.proofs.PartSums.allows.Statement.{statement}
+use Rattle.refine.proofs.PartSums.allows.Tie as tie
+
+pub allows-spec : {M : Type 1} → statement M
+allows-spec =
+    tie.close
+    (tie.spec
+    (λ c. search needs)
+    (λ c. search needs)
+    (λ c. search allow-empties)
+    (λ c. search needs)
+    (λ c. search needs)
+    (λ c. search allow-over)
+    (λ c. search allow-last))

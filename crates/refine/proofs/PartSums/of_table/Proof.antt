@@ -1,0 +1,13 @@
+use Rattle.refine.proofs.Tables.{zero-sums, summed-cost}
+use mathlib.Core.Path.{refl}
+use borrow.Author.Needs.{needs}
+use Rattle.refine.proofs.PartSums.of_table.Statement.{statement}
+use Rattle.refine.proofs.PartSums.of_table.Tie as tie
+
+pub of-table-spec : {M : Type 1} → statement M
+of-table-spec =
+    tie.close
+    (tie.spec
+    (λ c. search needs)
+    (λ c κs. (c .before .before .before .pre, zero-sums 16))
+    (λ c. let s = c .before .sum-costs .ensures in record { counts = refl; long = s .long; is = summed-cost _ _ s }))

@@ -1,0 +1,198 @@
+-- Passes until one moves nothing, as the code repeats them.
+use Prim.Native.Nat.{ℕ, zero, suc, _+_, _≤_, _<_, _^_}
+use mathlib.Core.Path.{_≡_, refl, sym, ap, subst, _∙_}
+use mathlib.Core.Bool.{true, false}
+use mathlib.Core.List.{List}
+use native.Mathlib.Nat.{not-suc-le-zero}
+use native.Mathlib.Omega.{arith}
+use lib.Dec.{eqb}
+use lib.ListN.{length, getD}
+use borrow.Author.Tests.{eq-eqb, ne-eqb}
+use Rattle.folds.specs.Fold.{pick, when, sumTo, turns}
+use Rattle.folds.proofs.Sums.{sumTo-ext, sumTo-only, sumTo-swap, sumTo-mono, sumTo-member}
+use Rattle.graph.specs.Graph.{Graph, vertices, edges, via, partCost, through, Formed, RowOf, Proper}
+use Rattle.graph.specs.Links.{Joins, Linked}
+use Rattle.graph.specs.Rows.{clusters}
+use Rattle.graph.proofs.Edges.{length-through}
+use Rattle.moves.specs.Entries.{stateOf, Good}
+use Rattle.moves.specs.Pass.{Tally, tallyOf, passOf, measure, passes, repeated, refinedOn}
+use Rattle.moves.proofs.Entries.{alone}
+use Rattle.moves.proofs.Own.{pass-steps, pass-still, pass-falls, steps-good, steps-fall}
+use Rattle.visit.specs.Visit.{Placed}
+use Rattle.refine.specs.declared.PartSums.{PartSums}
+use Rattle.refine.specs.Sums.{SumsOf}
+use Rattle.refine.specs.Work.{Wired, Work, net, worked}
+use Rattle.refine.specs.Tables.{Summed, Keyed, Shared, Inherits}
+use Rattle.refine.specs.Rung.{Ready, Settled}
+use Rattle.refine.proofs.Tables.{summed-cost, inherits-through}
+use Rattle.refine.proofs.Bridge.{Follows, Priced, pass-follows}
+
+ones : (m : ℕ) → sumTo m (λ i. 1) ≡ m
+unfolding sumTo
+ones zero = refl
+ones (suc m) = omega (arith, ones m)
+
+-- no more clusters than vertices, where none is empty
+pub clusters-few : (row : List ℕ) (n g : ℕ) → ((v : ℕ) → v < n → getD row v 0 < g) → ((c : ℕ) → c < g → (v : ℕ) × (v < n) × (getD row v 0 ≡ c)) → g ≤ n
+clusters-few row n g low onto =
+    omega
+    (
+      arith,
+      ones g,
+      ones n,
+      sumTo-mono g (λ c. 1) (λ c. sumTo n (λ v. when (eqb (getD row v 0) c) 1)) (λ c l. some c l),
+      sumTo-swap g n (λ c v. when (eqb (getD row v 0) c) 1),
+      sumTo-ext n (λ v. sumTo g (λ c. when (eqb (getD row v 0) c) 1)) (λ v. 1) (λ v l. sumTo-only g (getD row v 0) (λ c. 1) (low v l)),
+    )
+  where
+    some : (c : ℕ) → c < g → 1 ≤ sumTo n (λ v. when (eqb (getD row v 0) c) 1)
+    some c l =
+        let (v, lv, e) = onto c l in
+        let m : when (eqb (getD row v 0) c) 1 ≤ sumTo n (λ i. when (eqb (getD row i 0) c) 1) = sumTo-member n (λ i. when (eqb (getD row i 0) c) 1) v lv in
+        let w = rw (eq-eqb (getD row v 0) c e) at m in omega arith
+
+-- some number of passes, which is enough, makes R of s
+pub record Going (G : Graph) (k bound : ℕ) (row : List ℕ) (s R : Tally) : Type 0 where
+  pub left : ℕ
+  pub enough : measure G (s .parts) < left
+  pub comes : repeated G k bound row left s ≡ R
+
+-- the code's work w, on its way to R
+pub record Stands (G : Graph) (k bound : ℕ) (row : List ℕ) (R : Tally) (w : Work) : Type 0 where
+  pub sums : SumsOf (G .costs) (through row (w .table)) k (w .sums)
+  pub placed : Placed (w .table)
+  pub good : Good G k bound (λ r. row) 0 (stateOf 0 (through row (w .table)))
+  pub going : Going G k bound row (tallyOf (through row (w .table)) (w .moves)) R
+  pub room : w .moves + measure G (through row (w .table)) < 2 ^ 32
+
+module _ (G : Graph) (P : Proper G) (k bound : ℕ) (few : k ≤ 16) (row costs : List ℕ) (C : Priced G row costs) where
+  going-turn : (s R : Tally) → Good G k bound (λ r. row) 0 (stateOf 0 (s .parts)) → (passOf G k bound row s .moves ≡ s .moves → ⊥)
+      → Going G k bound row s R → Going G k bound row (passOf G k bound row s) R
+  unfolding repeated
+  going-turn s R I n g = go (g .left) (g .enough) (g .comes)
+    where
+      go : (left : ℕ) → measure G (s .parts) < left → repeated G k bound row left s ≡ R → Going G k bound row (passOf G k bound row s) R
+      go zero l e = absurd (not-suc-le-zero l)
+      go (suc left) l e =
+          record {
+            left = left;
+            enough = omega (arith, pass-falls G P k bound (λ r. row) 0 (alone row (C .whole)) 0 s I n);
+            comes = rw (ne-eqb (passOf G k bound row s .moves) (s .moves) n) at e;
+          }
+
+  going-end : (s R : Tally) → passOf G k bound row s .moves ≡ s .moves → Going G k bound row s R → passOf G k bound row s ≡ R
+  unfolding repeated
+  going-end s R q g = go (g .left) (g .enough) (g .comes)
+    where
+      go : (left : ℕ) → measure G (s .parts) < left → repeated G k bound row left s ≡ R → passOf G k bound row s ≡ R
+      go zero l e = absurd (not-suc-le-zero l)
+      go (suc left) l e = pass-still G P k bound (λ r. row) 0 (alone row (C .whole)) 0 s q ∙ (rw (eq-eqb (passOf G k bound row s .moves) (s .moves) q) at e)
+
+  module _ (R : Tally) (w w′ : Work) (x : Stands G k bound row R w) (g : ℕ) (eg : g ≡ clusters row)
+      (d : w′ ≡ turns g (worked (net (G .starts) (G .ends) (G .widths)) row costs bound) w) where
+    s : Tally
+    s = tallyOf (through row (w .table)) (w .moves)
+
+    follows : Follows G k row w′ (passOf G k bound row s)
+    unfolding s
+    follows = rw (d, eg) (pass-follows G P k bound few row costs C w s (record { is = refl; sums = x .sums; placed = x .placed }))
+
+    moves-as : w′ .moves ≡ passOf G k bound row s .moves
+    moves-as = ap (λ (t : Tally). t .moves) (follows .is)
+
+    parts-as : through row (w′ .table) ≡ passOf G k bound row s .parts
+    parts-as = ap (λ (t : Tally). t .parts) (follows .is)
+
+    -- a pass that moved something: on the way, with a smaller measure
+    pub stands-fall : (w′ .moves ≡ w .moves → ⊥) → measure G (through row (w′ .table)) < measure G (through row (w .table))
+    unfolding s
+    stands-fall n = rw parts-as (pass-falls G P k bound (λ r. row) 0 (alone row (C .whole)) 0 s (x .good) (λ e. n (moves-as ∙ e)))
+
+    pub stands-turn : (w′ .moves ≡ w .moves → ⊥) → Stands G k bound row R w′
+    unfolding s
+    stands-turn n =
+        record {
+          sums = follows .sums;
+          placed = follows .placed;
+          good = rw parts-as (steps-good G P k bound (λ r. row) 0 (alone row (C .whole)) {s = s} (x .good) (pass-steps G P k bound (λ r. row) 0 (alone row (C .whole)) 0 s));
+          going = rw (follows .is) (going-turn s R (x .good) (λ e. n (moves-as ∙ e)) (x .going));
+          room = rw (moves-as, parts-as)
+            (omega (arith, x .room, steps-fall G P k bound (λ r. row) 0 (alone row (C .whole)) {s = s} (x .good) (pass-steps G P k bound (λ r. row) 0 (alone row (C .whole)) 0 s)));
+        }
+
+    -- a pass that moved nothing: there
+    pub stands-end : w′ .moves ≡ w .moves → tallyOf (through row (w′ .table)) (w .moves) ≡ R
+    unfolding s
+    stands-end e = ap (λ (m : ℕ). tallyOf (through row (w′ .table)) m) (sym e) ∙ follows .is ∙ going-end s R (sym moves-as ∙ e) (x .going)
+
+-- edges between the vertices of a row or a table
+pub proper-joins : {G : Graph} → Proper G → (row : List ℕ) → length row ≡ vertices G → ((v : ℕ) → v < length row → getD row v 0 < 512) → Joins row (G .starts) (G .ends)
+proper-joins {G} P row whole low =
+    record {
+      out = record { few = P .many; rows = rows; in-row = λ j l. omega (arith, F .start-in j l); low = low };
+      into = record { few = omega (arith, P .many, F .same-ends); rows = rows; in-row = λ j l. omega (arith, F .end-in j (omega (arith, F .same-ends))); low = low };
+      same = F .same-ends;
+    }
+  where
+    F : Formed G
+    F = P .formed
+
+    rows : length row ≤ 512
+    rows = omega (arith, P .few)
+
+-- from what the work on a rung asks for
+module _ {G : Graph} {k bound : ℕ} {row parts : List ℕ} {moves : ℕ} (A : Ready G k bound row parts moves) where
+  pub ready-few : clusters row ≤ 512
+  ready-few = omega (arith, clusters-few row (vertices G) (clusters row) (A .row-of .below) (A .onto), A .proper .few)
+
+  pub ready-keyed : Keyed row (G .costs) 512
+  ready-keyed = record { same = A .row-of .whole; few = A .proper .few; low = λ v l. omega (arith, A .row-of .below v l, ready-few) }
+
+  pub ready-priced : {sums : List ℕ} → Summed row (G .costs) 512 (length (G .costs)) sums → Priced G row sums
+  ready-priced s = record { whole = A .row-of .whole; few = ready-few; onto = A .onto; cost = λ c l. summed-cost row (G .costs) s c (omega (arith, ready-few)) }
+
+  low : (v : ℕ) → v < length row → getD row v 0 < 512
+  low v l = omega (arith, A .row-of .below v (omega (arith, A .row-of .whole)), ready-few)
+
+  pub ready-parts : Keyed parts (G .costs) 16
+  ready-parts = record { same = A .good .whole; few = A .proper .few; low = λ v l. omega (arith, A .good .below v l, A .few) }
+
+  pub ready-shared : Shared row parts
+  ready-shared =
+      record {
+        same = A .good .whole ∙ sym (A .row-of .whole);
+        low = low;
+        few = λ v l. omega (arith, A .good .below v (omega (arith, A .row-of .whole)), A .few);
+        shared = λ a b la lb e. A .good .shared a b (omega (arith, A .row-of .whole)) (omega (arith, A .row-of .whole)) e;
+      }
+
+  pub ready-joins : Joins row (G .starts) (G .ends)
+  ready-joins = proper-joins (A .proper) row (A .row-of .whole) low
+
+  pub ready-wired : {head next head-in next-in : List ℕ} → Linked (via row (G .starts)) (length (G .starts)) head next → Linked (via row (G .ends)) (length (G .ends)) head-in next-in
+      → Wired row (G .starts) (G .ends) (G .widths) head next head-in next-in
+  ready-wired a b = record { joins = ready-joins; same = A .proper .formed .same-widths; out = a; into = b }
+
+pub ready-stands : {G : Graph} {k bound : ℕ} {row : List ℕ} (w : Work) → Ready G k bound row (through row (w .table)) (w .moves)
+    → SumsOf (G .costs) (through row (w .table)) k (w .sums) → Placed (w .table) → Stands G k bound row (refinedOn G k bound row (tallyOf (through row (w .table)) (w .moves))) w
+unfolding refinedOn passes
+ready-stands {G} {row = row} w A r p = record { sums = r; placed = p; good = A .good; going = record { left = passes G (through row (w .table)); enough = omega arith; comes = refl }; room = A .room }
+
+-- the work on a rung as a whole: into the clusters' table, and back
+module _ {G : Graph} {k bound : ℕ} {row parts : List ℕ} {moves : ℕ} (A : Ready G k bound row parts moves) (S : PartSums) (table : List ℕ)
+    (I : Inherits row parts (length row) table) (R : SumsOf (G .costs) parts k S) where
+  as-parts : through row table ≡ parts
+  as-parts = inherits-through row parts table (A .good .whole ∙ sym (A .row-of .whole)) I
+
+  pub ready-sums : SumsOf (G .costs) (through row table) (S .count) S × Ready G (S .count) bound row (through row table) moves
+  ready-sums =
+      rw as-parts
+      (subst (λ (x : ℕ). SumsOf (G .costs) parts x S) (sym (R .counts)) R, subst (λ (x : ℕ). Ready G x bound row parts moves) (sym (R .counts)) A)
+
+  pub ready-settled : {table′ l : List ℕ} {moves′ : ℕ} → Settled G (S .count) bound row table moves table′ moves′ → l ≡ through row table′
+      → tallyOf l moves′ ≡ refinedOn G k bound row (tallyOf parts moves)
+  ready-settled x e =
+      rw e (x .is) ∙ ap (λ (t : List ℕ). refinedOn G (S .count) bound row (tallyOf t moves)) as-parts ∙ ap (λ (j : ℕ). refinedOn G j bound row (tallyOf parts moves)) (R .counts)
+
+  pub ready-length : (table′ : List ℕ) {l : List ℕ} → l ≡ through row table′ → length l ≡ length parts
+  ready-length table′ e = ap length e ∙ length-through row table′ ∙ A .row-of .whole ∙ sym (A .good .whole)

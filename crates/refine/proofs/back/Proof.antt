@@ -1,0 +1,15 @@
+use Rattle.refine.proofs.Work.{back-none, back-above, back-tried}
+use native.Mathlib.Omega.{arith}
+use borrow.Author.Needs.{needs}
+use Rattle.refine.proofs.back.Statement.{statement}
+use Rattle.refine.proofs.back.Tie as tie
+
+pub back-spec : {M : Type 1} → statement M
+back-spec =
+    tie.close
+    (tie.spec
+    (λ c. (search back-none, omega arith))
+    (λ c. (search back-above, omega arith))
+    (λ c. search needs)
+    (λ c κs. search needs)
+    (λ c. (search back-tried, search needs)))

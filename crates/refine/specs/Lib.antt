@@ -1,0 +1,5 @@
+pub mod Sums
+pub mod Work
+pub mod Tables
+pub mod Rung
+pub mod Down
