@@ -33,7 +33,7 @@ pub fn fill(row: &[u16], ends: &[u16], head: &mut [u16; 512], next: &mut [u16; 1
 }
 
 // The width of edge j where its ends lie in different parts, else 0.
-fn crossing(parts: &[u16], starts: &[u16], ends: &[u16], widths: &[u16], j: usize) -> u32
+pub fn crossing(parts: &[u16], starts: &[u16], ends: &[u16], widths: &[u16], j: usize) -> u32
     requires { ⌜ Joins (now parts) (now starts) (now ends) ⌝ }
     requires { ⌜ (j < length (now starts)) × (length (now widths) ≡ length (now starts)) ⌝ }
     ensures { λ r. ⌜ Crossing (arcs (now (parts .entry)) (now (starts .entry)) (now (ends .entry))) (now (widths .entry)) j r ⌝ }

@@ -10,7 +10,8 @@ use Rattle.folds.proofs.Lists.{row-in}
 use Rattle.graph.specs.Graph.{Graph}
 use Rattle.division.specs.Division.{Pick, none, some}
 use Rattle.initial.specs.Initial.{Chosen, found, uncut, orLower, highest, initialOf, chosenOf}
-use Rattle.initial.specs.Answers.{foundOf, tableAfter, Answers, rowsIn, Chooses, Lent}
+use Rattle.initial.specs.Answers.{foundOf, tableAfter, Answers, rowsIn, initialAs, chosenAfter, Chooses, Lent}
+use Rattle.initial.specs.declared.Initial.{Initial}
 use Rattle.initial.specs.declared.Initial.the-variants.{At, Uncut}
 use Rattle.initial.specs.declared.Found.{Found}
 use Rattle.initial.specs.declared.Found.the-variants.{Cut, Nothing}
@@ -61,3 +62,18 @@ row-part rows n r = let q : r * n + n - r * n ≡ n = omega arith in rw q
 
 pub lent-row : {n k top : ℕ} {rows table : List ℕ} (r : ℕ) → Lent n k top rows table → r ≤ top → r * n + n ≤ length rows
 lent-row {n} {k} {top} r L l = omega (arith, L .long, row-in r (suc top) n (omega arith))
+
+-- for a caller: what an answer of `choose` says
+pub chooses-at : {x : Chosen} {old new : List ℕ} {a : Initial} {r c : ℕ} → Chooses x old new a → a ≡ At r c → (t : List ℕ) × (x ≡ found r t c) × (new ≡ over t old)
+chooses-at {x} {old} {new} {a} {r} {c} C e = go x (C .is) (C .table)
+  where
+    go : (x : Chosen) → a ≡ initialAs x → new ≡ chosenAfter x old → (t : List ℕ) × (x ≡ found r t c) × (new ≡ over t old)
+    go uncut q h = let z : _≡_ {A = ℕ} 0 1 = cc in absurd (omega arith)
+    go (found s t d) q h = (t, cc, h)
+
+pub chooses-uncut : {x : Chosen} {old new : List ℕ} {a : Initial} → Chooses x old new a → a ≡ Uncut → (x ≡ uncut) × (new ≡ old)
+chooses-uncut {x} {old} {new} {a} C e = go x (C .is) (C .table)
+  where
+    go : (x : Chosen) → a ≡ initialAs x → new ≡ chosenAfter x old → (x ≡ uncut) × (new ≡ old)
+    go uncut q h = (refl, h)
+    go (found s t d) q h = let z : _≡_ {A = ℕ} 0 1 = cc in absurd (omega arith)

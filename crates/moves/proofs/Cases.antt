@@ -1,12 +1,11 @@
 -- Starred cases of document 01, computed from the definitions.
-use Prim.Native.Nat.{ℕ}
 use mathlib.Core.Path.{_≡_, refl}
-use mathlib.Core.List.{List, [], _∷_}
-use Rattle.folds.specs.Fold.{sumTo, countTo, maxTo, firstTo, anyTo, listTo, turns}
+use mathlib.Core.List.{[], _∷_}
+use Rattle.folds.specs.Fold.{sumTo, maxTo, firstTo, anyTo, listTo, turns}
 use Rattle.graph.specs.Graph.{Graph, graphOf, vertices, identity, crossing, cut, cutOf, costIn, partCost}
 use Rattle.graph.specs.Rows.{clusters}
 use Rattle.moves.specs.Move.{partSize, movedTo, partOf, leaves, share, pull, gainTo}
-use Rattle.moves.specs.Pass.{lesser, greater, lowered, raised, lowestNext, aboveBefore, stays, allows, tried, goesBack, target, Tally, tallyOf, settledAt, visited, passOf, measure, passes, repeated, refinedOn, refinedBelow, refined}
+use Rattle.moves.specs.Pass.{lesser, greater, lowered, raised, lowestNext, aboveBefore, stays, allows, tried, goesBack, target, tallyOf, settledAt, visited, passOf, measure, passes, repeated, refinedOn, refinedBelow, refined}
 
 -- case 2: 4 vertices of cost 1, k 2, bound 3, edges 0 to 3 and 1 to 2 of width 5
 case2 : Graph

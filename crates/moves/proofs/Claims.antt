@@ -48,8 +48,8 @@ module _ (G : Graph) (P : Proper G) (k bound : ℕ) (rows : ℕ → List ℕ) (t
       → Taken G bound (rows (s .rung)) (s .parts) h (target G k bound (rows (s .rung)) (s .parts) h)
   visit-takes s I h l =
       target-taken G (rows (s .rung)) (s .parts) h bound k l (λ u o.
-        let (j, lj, q, e) = o .some in
-        let b = I .below (getD (G .ends) j 0) (P .formed .end-in j lj) in rw e at b)
+      let (j, lj, q, e) = o .some in
+      let b = I .below (getD (G .ends) j 0) (P .formed .end-in j lj) in rw e at b)
 
   -- the passes end: on each rung the fuel suffices, and the last pass moves nothing
   pub passes-end : (r : ℕ) (s : Tally) → Good G k bound rows top (stateOf r (s .parts)) → passOf G k bound (rows r) (refinedOn G k bound (rows r) s) ≡ refinedOn G k bound (rows r) s

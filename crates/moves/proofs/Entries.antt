@@ -1,24 +1,23 @@
 -- What each entry of a list of allowed ones keeps, and what it does to the cut.
 use Prim.Native.Nat.{ℕ, zero, suc, _+_, _-_, _≤_, _<_}
-use mathlib.Core.Path.{_≡_, refl, sym, ap, _∙_}
+use mathlib.Core.Path.{_≡_, refl, sym, _∙_}
 use mathlib.Core.Bool.{Bool, true, false}
-use mathlib.Core.Logic.{_⊎_, inl, inr}
 use mathlib.Core.List.{List, [], _∷_}
 use native.Mathlib.Nat.{not-suc-le-zero}
 use native.Mathlib.Omega.{arith}
-use lib.Dec.{eqb, ltb}
+use lib.Dec.{eqb}
 use lib.IntN.{ℤ, pos, _+ℤ_, +ℤ-idr}
 use lib.ListN.{length, getD, take}
 use borrow.Author.Tests.{eqb-true, eq-eqb, ltb-true}
-use Rattle.folds.specs.Fold.{pick, firstTo, anyTo, listTo}
-use Rattle.folds.proofs.Cases.{either, eq-or-ne}
+use Rattle.folds.specs.Fold.{pick, firstTo, anyTo}
+use Rattle.folds.proofs.Cases.{either}
 use Rattle.folds.proofs.Searches.{any-i, firstTo-hit}
 use Rattle.folds.proofs.Lists.{length-listTo, getD-listTo}
-use Rattle.graph.specs.Graph.{Graph, vertices, edges, via, cutOf, partCost, Formed, Proper}
+use Rattle.graph.specs.Graph.{Graph, vertices, edges, via, Formed, Proper}
 use Rattle.graph.specs.Rows.{Hierarchy}
 use Rattle.moves.specs.Move.{place, partSize, movedTo, partOf, leaves, pull, gainTo, Back, Onward, Candidate, Stays, Allowed}
 use Rattle.moves.specs.Entries.{State, stateOf, Entry, move, down, step, after, Admits, AllAllowed, cutAt, gain, gains, Good}
-use Rattle.moves.proofs.Move.{leaves-e, within-touched, cut-move, order-move, cost-third, cost-old, cost-new, filled-move}
+use Rattle.moves.proofs.Move.{leaves-e, within-touched, cut-move, order-move, cost-third, cost-old, filled-move}
 use Rattle.moves.proofs.Signed.{signed, signed-chain}
 
 -- what the laws of moves ask of the rows 0 to top: an entry for each vertex, and what a row joins, the row above joins

@@ -6,10 +6,10 @@ use mathlib.Core.List.{List}
 use native.Mathlib.Nat.{add-zero, zero-add, add-comm}
 use native.Mathlib.Omega.{arith}
 use lib.Dec.{eqb}
-use lib.ListN.{length, getD}
+use lib.ListN.{getD}
 use borrow.Author.Tests.{eqb-true, eqb-false, eq-eqb, ne-eqb}
-use Rattle.folds.specs.Fold.{pick, when, sumTo}
-use Rattle.folds.proofs.Cases.{by, either, eq-or-ne, when-zero, both, both-i, not-yes}
+use Rattle.folds.specs.Fold.{pick, when}
+use Rattle.folds.proofs.Cases.{by, either, eq-or-ne, when-zero, both, not-yes}
 use Rattle.folds.proofs.Sums.{sumTo-add, sumTo-ext, sumTo-when}
 use Rattle.graph.specs.Graph.{Graph, vertices, edges, via, crossing, cut, cutOf, costIn, partCost, Formed}
 use Rattle.moves.specs.Move.{leaves, share, pull}
@@ -71,11 +71,11 @@ module _ (G : Graph) (F : Formed G) (row parts parts′ : List ℕ) (h s t : ℕ
   cut-move =
       ap (λ (x : ℕ). cutOf G parts + x) (sym (sumTo-add (edges G) _ _)) ∙ sym (sumTo-add (edges G) _ _)
       ∙ sumTo-ext (edges G) _ _ (λ j l.
-        let a = getD (G .starts) j 0 in
-        let b = getD (G .ends) j 0 in
-        rw (upd a (F .start-in j l), upd b (F .end-in j l))
-        (edge-cut (eqb (getD row a 0) h) (eqb (getD row b 0) h) (getD parts a 0) (getD parts b 0) s t (getD (G .widths) j 0)
-          (λ q. all a (F .start-in j l) (eqb-true (getD row a 0) h q)) (λ q. all b (F .end-in j l) (eqb-true (getD row b 0) h q))))
+      let a = getD (G .starts) j 0 in
+      let b = getD (G .ends) j 0 in
+      rw (upd a (F .start-in j l), upd b (F .end-in j l))
+      (edge-cut (eqb (getD row a 0) h) (eqb (getD row b 0) h) (getD parts a 0) (getD parts b 0) s t (getD (G .widths) j 0)
+      (λ q. all a (F .start-in j l) (eqb-true (getD row a 0) h q)) (λ q. all b (F .end-in j l) (eqb-true (getD row b 0) h q))))
       ∙ sumTo-add (edges G) _ _ ∙ ap (λ (x : ℕ). cutOf G parts′ + x) (sumTo-add (edges G) _ _)
 
   -- THE ORDER, for every part t whose place is from the highest of the predecessors to the lowest of the successors
@@ -89,8 +89,8 @@ module _ (G : Graph) (F : Formed G) (row parts parts′ : List ℕ) (h s t : ℕ
       let b = getD (G .ends) j 0 in
       rw (upd a (F .start-in j l), upd b (F .end-in j l))
       (edge-order at (eqb (getD row a 0) h) (eqb (getD row b 0) h) (getD parts a 0) (getD parts b 0) t (old j l)
-        (λ p q. low j l (leaves-i row (G .ends) (G .starts) h j (eqb-true (getD row b 0) h p) (eqb-false (getD row a 0) h q)))
-        (λ p q. high j l (leaves-i row (G .starts) (G .ends) h j (eqb-true (getD row a 0) h p) (eqb-false (getD row b 0) h q))))
+      (λ p q. low j l (leaves-i row (G .ends) (G .starts) h j (eqb-true (getD row b 0) h p) (eqb-false (getD row a 0) h q)))
+      (λ p q. high j l (leaves-i row (G .starts) (G .ends) h j (eqb-true (getD row a 0) h p) (eqb-false (getD row b 0) h q))))
 
   -- the costs: the cluster's cost goes from s to t
   pub cost-move : (u : ℕ) → partCost (G .costs) parts′ u + when (eqb s u) (partCost (G .costs) row h) ≡ partCost (G .costs) parts u + when (eqb t u) (partCost (G .costs) row h)
@@ -99,7 +99,7 @@ module _ (G : Graph) (F : Formed G) (row parts parts′ : List ℕ) (h s t : ℕ
       rw (← sumTo-when (vertices G) (eqb s u) (λ v. when (eqb (getD row v 0) h) (getD (G .costs) v 0)), ← sumTo-when (vertices G) (eqb t u) (λ v. when (eqb (getD row v 0) h) (getD (G .costs) v 0)))
       (sym (sumTo-add (vertices G) _ _)
       ∙ sumTo-ext (vertices G) _ _ (λ v l.
-        rw (upd v l) (vertex-cost (eqb (getD row v 0) h) (getD parts v 0) s t u (getD (G .costs) v 0) (λ q. all v l (eqb-true (getD row v 0) h q))))
+      rw (upd v l) (vertex-cost (eqb (getD row v 0) h) (getD parts v 0) s t u (getD (G .costs) v 0) (λ q. all v l (eqb-true (getD row v 0) h q))))
       ∙ sumTo-add (vertices G) _ _)
 
   pub cost-third : (u : ℕ) → (s ≡ u → ⊥) → (t ≡ u → ⊥) → partCost (G .costs) parts′ u ≡ partCost (G .costs) parts u

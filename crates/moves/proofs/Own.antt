@@ -1,26 +1,25 @@
 -- The passes' own moves are a list of allowed moves of gain above 0, and the passes end.
 use Prim.Native.Nat.{ℕ, zero, suc, _+_, _-_, _≤_, _<_}
-use mathlib.Core.Path.{_≡_, refl, sym, ap, subst, _∙_}
-use mathlib.Core.Bool.{Bool, true, false}
-use mathlib.Core.Logic.{_⊎_, inl, inr}
+use mathlib.Core.Path.{_≡_, refl, sym, ap, _∙_}
+use mathlib.Core.Bool.{true}
 use mathlib.Core.List.{List, [], _∷_, _++_}
 use native.Mathlib.Nat.{not-suc-le-zero}
 use native.Mathlib.Omega.{arith}
-use lib.Dec.{eqb, ltb}
-use lib.IntN.{ℤ, pos, _+ℤ_}
+use lib.Dec.{eqb}
+use lib.IntN.{pos}
 use lib.Signed.{ltZ}
 use borrow.Author.Tests.{eqb-true, eqb-false, eq-eqb, ne-eqb, ltb-true}
-use Rattle.folds.specs.Fold.{pick, when, turns}
-use Rattle.folds.proofs.Cases.{no-bool, by, either, eq-or-ne, when-le}
-use Rattle.graph.specs.Graph.{Graph, vertices, edges, cutOf, Proper}
+use Rattle.folds.specs.Fold.{turns}
+use Rattle.folds.proofs.Cases.{by, either, eq-or-ne, when-le}
+use Rattle.graph.specs.Graph.{Graph, Proper}
 use Rattle.graph.specs.Rows.{clusters}
-use Rattle.moves.specs.Move.{movedTo, partOf, pull, gainTo, Allowed}
-use Rattle.moves.specs.Entries.{State, stateOf, Entry, move, down, step, after, AllAllowed, AllGain, cutAt, gain, gains, gaining, downs, Good}
-use Rattle.moves.specs.Pass.{target, Tally, tallyOf, settledAt, visited, passOf, measure, passes, repeated, refinedOn, refinedBelow}
+use Rattle.moves.specs.Move.{partOf, pull, gainTo, Allowed}
+use Rattle.moves.specs.Entries.{State, stateOf, Entry, move, down, step, after, AllAllowed, AllGain, cutAt, gain, gaining, downs, Good}
+use Rattle.moves.specs.Pass.{target, Tally, settledAt, visited, passOf, measure, passes, repeated, refinedOn, refinedBelow}
 use Rattle.moves.specs.Own.{Took}
 use Rattle.moves.proofs.Signed.{above-zero}
 use Rattle.moves.proofs.Entries.{Nested, good-step, cut-allowed, cut-total}
-use Rattle.moves.proofs.Visits.{Chosen, target-chosen}
+use Rattle.moves.proofs.Visits.{target-chosen}
 
 -- one list after another
 module _ (G : Graph) (bound : ℕ) (rows : ℕ → List ℕ) where
@@ -90,8 +89,7 @@ module _ (G : Graph) (P : Proper G) (k bound : ℕ) (rows : ℕ → List ℕ) (t
       let own = pull G (rows (s .rung)) (s .parts) h (partOf (rows (s .rung)) (s .parts) h) in
       let new = pull G (rows (s .rung)) (s .parts) h t in
       let s′ = step rows (move h t) s in
-      omega
-      (
+      omega (
         arith,
         few-gains es s′ (good-step G P k bound rows top H (move h t) s I (a .0)) (a .1) (g .1),
         cut-allowed G P k bound rows top H s I h t,
@@ -138,8 +136,8 @@ module _ (G : Graph) (P : Proper G) (k bound : ℕ) (rows : ℕ → List ℕ) (t
       either (eq-or-ne (target G k bound (rows r) (s .parts) h) (partOf (rows r) (s .parts) h))
       (λ e. rw (eq-eqb _ _ e) (steps-none r s))
       (λ n. rw (ne-eqb _ _ n)
-        (either (target-chosen G (rows r) (s .parts) h bound k l) (λ e. absurd (n e))
-        (λ w. record { made = 1; took = took-move G bound rows (stateOf r (s .parts)) h (target G k bound (rows r) (s .parts) h) (w .0) (w .1); count = refl })))
+      (either (target-chosen G (rows r) (s .parts) h bound k l) (λ e. absurd (n e))
+      (λ w. record { made = 1; took = took-move G bound rows (stateOf r (s .parts)) h (target G k bound (rows r) (s .parts) h) (w .0) (w .1); count = refl })))
 
   pub turn-steps : (r i : ℕ) (s : Tally) → i ≤ clusters (rows r) → Steps r s (turns i (visited G k bound (rows r)) s)
   unfolding turns

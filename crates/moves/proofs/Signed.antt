@@ -1,10 +1,9 @@
 -- Signed gains: sums without a minus as sums with one, and the order of two gains.
-use Prim.Native.Nat.{ℕ, zero, suc, _+_, _-_, _≤_, _<_}
+use Prim.Native.Nat.{ℕ, zero, suc, _+_, _-_, _<_}
 use mathlib.Core.Path.{_≡_, refl, sym, ap, ap₂, _∙_}
-use mathlib.Core.Bool.{Bool, true, false}
 use native.Mathlib.Omega.{arith}
 use lib.Dec.{ltb}
-use lib.IntN.{ℤ, pos, negsuc, subℕ, _+ℤ_, _-ℤ_, negℤ, pos-+ℤ-pos, +ℤ-negℤ-cancel, +ℤ-assoc, +ℤ-comm, +ℤ-invr}
+use lib.IntN.{ℤ, pos, subℕ, _+ℤ_, _-ℤ_, negℤ, pos-+ℤ-pos, +ℤ-negℤ-cancel, +ℤ-assoc, +ℤ-comm, +ℤ-invr}
 use lib.Signed.{ltZ}
 use borrow.Author.Tests.{ltb-true, ltb-false, lt-ltb, le-ltb}
 use Rattle.folds.proofs.Cases.{by, same-test}
@@ -29,12 +28,12 @@ pub less-gain : (a b c : ℕ) → ltZ (pos a -ℤ pos c) (pos b -ℤ pos c) ≡ 
 less-gain a b c =
     ap₂ ltZ (minus-is a c) (minus-is b c)
     ∙ by (ltb a c)
-      (λ x. by (ltb b c)
-        (λ y. let l = ltb-true a c x in let m = ltb-true b c y in rw (x, y) (test-as a b (c - suc b) (c - suc a) (λ h. omega arith) (λ h. omega arith)))
-        (λ y. let l = ltb-true a c x in let m = ltb-false b c y in rw (x, y) (sym (lt-ltb a b (omega arith)))))
-      (λ x. by (ltb b c)
-        (λ y. let l = ltb-false a c x in let m = ltb-true b c y in rw (x, y) (sym (le-ltb a b (omega arith))))
-        (λ y. let l = ltb-false a c x in let m = ltb-false b c y in rw (x, y) (test-as a b (a - c) (b - c) (λ h. omega arith) (λ h. omega arith))))
+    (λ x. by (ltb b c)
+    (λ y. let l = ltb-true a c x in let m = ltb-true b c y in rw (x, y) (test-as a b (c - suc b) (c - suc a) (λ h. omega arith) (λ h. omega arith)))
+    (λ y. let l = ltb-true a c x in let m = ltb-false b c y in rw (x, y) (sym (lt-ltb a b (omega arith)))))
+    (λ x. by (ltb b c)
+    (λ y. let l = ltb-false a c x in let m = ltb-true b c y in rw (x, y) (sym (le-ltb a b (omega arith))))
+    (λ y. let l = ltb-false a c x in let m = ltb-false b c y in rw (x, y) (test-as a b (a - c) (b - c) (λ h. omega arith) (λ h. omega arith))))
 
 -- a gain is above 0 exactly if the new sum is above the old
 pub above-zero : (a c : ℕ) → ltZ (pos 0) (pos a -ℤ pos c) ≡ ltb c a

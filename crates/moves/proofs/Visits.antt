@@ -1,6 +1,6 @@
 -- A visit takes an allowed candidate of gain above 0, or none.
 use Prim.Native.Nat.{ℕ, zero, suc, _+_, _-_, _≤_, _<_}
-use mathlib.Core.Path.{_≡_, refl, sym, ap, _∙_}
+use mathlib.Core.Path.{_≡_, refl, sym, _∙_}
 use mathlib.Core.Bool.{Bool, true, false, not, _&&_}
 use mathlib.Core.Logic.{_⊎_, inl, inr}
 use mathlib.Core.List.{List}
@@ -9,7 +9,7 @@ use native.Mathlib.Omega.{arith}
 use lib.Dec.{eqb, ltb, leb}
 use lib.IntN.{pos}
 use lib.Signed.{ltZ}
-use lib.ListN.{length, getD}
+use lib.ListN.{getD}
 use borrow.Author.Tests.{eqb-true, eqb-false, eq-eqb, ne-eqb, ltb-true, ltb-false, leb-true, lt-ltb, le-ltb, le-leb}
 use Rattle.folds.specs.Fold.{pick, turns}
 use Rattle.folds.proofs.Cases.{by, either, both, both-i, not-yes, last-or}
@@ -35,8 +35,8 @@ module _ (p : ℕ → Bool) (f : ℕ → ℕ) (better : ℕ → ℕ → ℕ) (s 
       either (best-is one m)
       (λ e. by (p m) (λ q. rw q (either (one b (f m)) (λ w. inl (w ∙ e)) (λ w. inr (m, omega arith, q, sym w)))) (λ q. rw q (inl e)))
       (λ w. by (p m)
-        (λ q. rw q (either (one b (f m)) (λ x. inr (w .0, omega arith, w .2, w .3 ∙ sym x)) (λ x. inr (m, omega arith, q, sym x))))
-        (λ q. rw q (inr (w .0, omega arith, w .2, w .3))))
+      (λ q. rw q (either (one b (f m)) (λ x. inr (w .0, omega arith, w .2, w .3 ∙ sym x)) (λ x. inr (m, omega arith, q, sym x))))
+      (λ q. rw q (inr (w .0, omega arith, w .2, w .3))))
     where
       b : ℕ
       b = choose p f better s m
@@ -197,7 +197,7 @@ module _ (G : Graph) (row parts : List ℕ) (h : ℕ) where
         let some : 0 < aboveBefore G row parts h = omega arith in
         let low : aboveBefore G row parts h ≤ partOf row parts h = omega (arith, b .lower) in
         let t = tried-no-less (ltb 0 (aboveBefore G row parts h) && leb (aboveBefore G row parts h) (partOf row parts h)) u (partOf row parts h)
-              (both-i (ltb 0 (aboveBefore G row parts h)) _ (lt-ltb _ _ some) (le-leb _ _ low)) (allows-test u a) in
+        (both-i (ltb 0 (aboveBefore G row parts h)) _ (lt-ltb _ _ some) (le-leb _ _ low)) (allows-test u a) in
         rw q t
 
     back-low : goesBack G bound row parts h ≤ partOf row parts h
@@ -216,7 +216,7 @@ module _ (G : Graph) (row parts : List ℕ) (h : ℕ) where
           (λ b.
           let e = onward-is k u (below u b) b in
           let t = tried-no-less (ltb (partOf row parts h) u && ltb u k) u (goesBack G bound row parts h)
-                (both-i (ltb (partOf row parts h) u) (ltb u k) (lt-ltb _ _ (b .higher)) (lt-ltb _ _ (below u b))) (allows-test u a) in
+          (both-i (ltb (partOf row parts h) u) (ltb u k) (lt-ltb _ _ (b .higher)) (lt-ltb _ _ (below u b))) (allows-test u a) in
           rw e t)
 
       onward-more : Onward G row parts h (target G k bound row parts h) → pull G row parts h (goesBack G bound row parts h) < pull G row parts h (target G k bound row parts h)

@@ -1,10 +1,10 @@
 -- The passes: what a visit of a cluster does, a pass, passes until one moves nothing, and down the rungs (document 01, "Moves").
 use Prim.Native.Nat.{ℕ, zero, suc, _+_, _-_}
-use mathlib.Core.Bool.{Bool, true, not, _&&_}
+use mathlib.Core.Bool.{Bool, not, _&&_}
 use mathlib.Core.List.{List}
 use lib.Dec.{eqb, ltb, leb}
 use lib.Signed.{ltZ}
-use lib.ListN.{length, getD}
+use lib.ListN.{getD}
 use Rattle.folds.specs.Fold.{pick, anyTo, turns}
 use Rattle.graph.specs.Graph.{Graph, vertices, edges, via, cutOf}
 use Rattle.graph.specs.Rows.{clusters}

@@ -1,30 +1,28 @@
 -- The work of the code on a rung is the definitions' passes, and the record stays the sums of the table.
 use Prim.Native.Nat.{ℕ, zero, suc, _+_, _-_, _≤_, _<_}
-use mathlib.Core.Path.{_≡_, refl, sym, ap, ap₂, _∙_}
+use mathlib.Core.Path.{_≡_, refl, sym, ap, _∙_}
 use mathlib.Core.Bool.{Bool, true, false, not, _&&_}
 use mathlib.Core.List.{List}
 use native.Mathlib.Omega.{arith}
 use lib.Dec.{eqb, ltb, leb}
-use lib.ListN.{length, getD, set, length-set}
+use lib.ListN.{length, getD, set}
 use lib.Seq.{getD-set-same, getD-set-other}
-use lib.Signed.{ltZ}
-use borrow.Author.Tests.{eqb-true, eqb-false, eq-eqb, ne-eqb, ltb-true, leb-true, lt-ltb, le-ltb}
-use Rattle.folds.specs.Fold.{pick, when, sumTo, anyTo, listTo, turns}
+use borrow.Author.Tests.{eqb-true, eq-eqb, ne-eqb, ltb-true, leb-true, lt-ltb, le-ltb}
+use Rattle.folds.specs.Fold.{pick, when, sumTo, anyTo, turns}
 use Rattle.folds.proofs.Cases.{by, both, either, eq-or-ne, same-test}
 use Rattle.folds.proofs.Sums.{sumTo-ext, sumTo-add, sumTo-none, sumTo-member}
 use Rattle.folds.proofs.Searches.{any-e, any-none}
 use Rattle.folds.proofs.Lists.{listTo-ext}
-use Rattle.graph.specs.Graph.{Graph, vertices, costIn, partCost, through, Formed, Proper}
+use Rattle.graph.specs.Graph.{Graph, vertices, costIn, partCost, through, Proper}
 use Rattle.graph.specs.Rows.{clusters}
 use Rattle.graph.proofs.Edges.{through-at, length-through}
 use Rattle.moves.specs.Move.{partSize, movedTo, partOf, pull, gainTo}
 use Rattle.moves.specs.Pass.{lowestNext, aboveBefore, stays, allows, tried, goesBack, target, Tally, tallyOf, settledAt, visited, passOf}
 use Rattle.moves.proofs.Move.{cost-new, cost-old, cost-third}
 use Rattle.moves.proofs.Signed.{less-gain}
-use Rattle.moves.proofs.Entries.{first-of, length-moved, moved-at}
+use Rattle.moves.proofs.Entries.{first-of, moved-at}
 use Rattle.visit.specs.Visit.{Placed}
-use Rattle.refine.specs.declared.PartSums.{PartSums}
-use Rattle.refine.specs.Sums.{SumsOf, sumsAllow, shifted}
+use Rattle.refine.specs.Sums.{SumsOf, sumsAllow}
 use Rattle.refine.specs.Work.{betterOf, backOf, choiceOf, Work, net, choiceAt, movedBy, worked}
 use Rattle.refine.proofs.Sums.{shifted-sums}
 use Rattle.refine.proofs.Work.{placed-set, choice-below}
@@ -49,8 +47,8 @@ any-sum : (n : ℕ) (p : ℕ → Bool) (c : ℕ → ℕ) → ((v : ℕ) → v < 
 any-sum n p c pos =
     by (anyTo n p)
     (λ t. let (v, l, e) = any-e n p t in
-      let m : when (p v) (c v) ≤ sumTo n (λ i. when (p i) (c i)) = sumTo-member n (λ i. when (p i) (c i)) v l in
-      rw t (sym (lt-ltb 0 (sumTo n (λ i. when (p i) (c i))) (let w = rw e at m in omega (arith, pos v l)))))
+    let m : when (p v) (c v) ≤ sumTo n (λ i. when (p i) (c i)) = sumTo-member n (λ i. when (p i) (c i)) v l in
+    rw t (sym (lt-ltb 0 (sumTo n (λ i. when (p i) (c i))) (let w = rw e at m in omega (arith, pos v l)))))
     (λ t. rw t (sym (le-ltb 0 (sumTo n (λ i. when (p i) (c i))) (omega (arith, sumTo-none n (λ i. when (p i) (c i)) (λ v l. rw (any-none n p t v l)))))))
 
 and-swap : (a b : Bool) → (a && b) ≡ (b && a)
@@ -144,14 +142,14 @@ module _ (G : Graph) (P : Proper G) (k bound : ℕ) (row costs : List ℕ) (whol
       sym
       (rw own-is
       (tried-better (ltb own low && ltb low (w .sums .count)) low _ (λ t.
-        let (a, b) = both (ltb own low) _ t in
-        let la = ltb-true own low a in
-        let lb = ltb-true low (w .sums .count) b in ((λ e. omega arith), omega (arith, R .counts)))
+      let (a, b) = both (ltb own low) _ t in
+      let la = ltb-true own low a in
+      let lb = ltb-true low (w .sums .count) b in ((λ e. omega arith), omega (arith, R .counts)))
       ∙ ap (λ (x : ℕ). betterOf (pull G row parts h) (w .sums) own cost bound (ltb own low && ltb low (w .sums .count)) low x)
-        (tried-better (ltb 0 high && leb high own) (high - 1) own (λ t.
-          let (a, b) = both (ltb 0 high) _ t in
-          let la = ltb-true 0 high a in
-          let lb = leb-true high own b in ((λ e. omega arith), omega (arith, own-low))))))
+      (tried-better (ltb 0 high && leb high own) (high - 1) own (λ t.
+      let (a, b) = both (ltb 0 high) _ t in
+      let la = ltb-true 0 high a in
+      let lb = leb-true high own b in ((λ e. omega arith), omega (arith, own-low))))))
     where
       low : ℕ
       low = lowestNext G (w .sums .count) row parts h
@@ -173,15 +171,15 @@ module _ (G : Graph) (P : Proper G) (k bound : ℕ) (row costs : List ℕ) (whol
       rw (choice-target, own-is)
       (either (eq-or-ne t own) (λ e. rw (eq-eqb t own e) (record { is = refl; sums = R; placed = placed }))
       (λ n. rw (ne-eqb t own n)
-        (record {
-          is = ap (λ (l : List ℕ). tallyOf l (w .moves + 1)) (sym (moved-through row (w .table) h t (omega (arith, placed .long))));
-          sums = rw (← moved-through row (w .table) h t (omega (arith, placed .long)), cost-is)
+      (record {
+        is = ap (λ (l : List ℕ). tallyOf l (w .moves + 1)) (sym (moved-through row (w .table) h t (omega (arith, placed .long))));
+        sums = rw (← moved-through row (w .table) h t (omega (arith, placed .long)), cost-is)
             (shifted-sums (w .sums) own t (partCost (G .costs) row h) 0 R (λ e. n (sym e)) own-low low
-              (cost-old G (P .formed) row parts (movedTo row h t parts) h own t all (upd t) (λ e. n (sym e)))
-              (cost-new G (P .formed) row parts (movedTo row h t parts) h own t all (upd t) (λ e. n (sym e)))
-              (cost-third G (P .formed) row parts (movedTo row h t parts) h own t all (upd t)));
-          placed = placed-set h t placed low;
-        })))
+            (cost-old G (P .formed) row parts (movedTo row h t parts) h own t all (upd t) (λ e. n (sym e)))
+            (cost-new G (P .formed) row parts (movedTo row h t parts) h own t all (upd t) (λ e. n (sym e)))
+            (cost-third G (P .formed) row parts (movedTo row h t parts) h own t all (upd t)));
+        placed = placed-set h t placed low;
+      })))
     where
       t : ℕ
       t = target G k bound row parts h

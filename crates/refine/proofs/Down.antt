@@ -6,14 +6,14 @@ use native.Mathlib.Nat.{le-mul-of-pos-right, mul-le-mul-right}
 use native.Mathlib.Omega.{arith}
 use lib.ListN.{length, getD, take, drop}
 use lib.Seq.{take-at}
-use Rattle.folds.specs.Fold.{sumTo, over, part}
+use Rattle.folds.specs.Fold.{over, part}
 use Rattle.folds.proofs.Sums.{sumTo-le}
 use Rattle.folds.proofs.Lists.{row-in}
 use Rattle.graph.specs.Graph.{Graph, vertices, edges, seen, crossing, cut, cutOf, Proper}
 use Rattle.graph.specs.Links.{Joins}
-use Rattle.graph.specs.Rows.{clusters, Hierarchy}
+use Rattle.graph.specs.Rows.{Hierarchy}
 use Rattle.graph.proofs.Edges.{crossing-le}
-use Rattle.moves.specs.Entries.{State, stateOf, Good}
+use Rattle.moves.specs.Entries.{stateOf, Good}
 use Rattle.moves.specs.Pass.{Tally, tallyOf, measure, refinedOn, refinedBelow, refined}
 use Rattle.moves.proofs.Entries.{nested, good-down}
 use Rattle.moves.proofs.Own.{refined-steps, steps-good, steps-fall}
@@ -96,10 +96,10 @@ unfolding part
 row-part l a n = let e : a + n - a ≡ n = omega arith in rw e
 
 -- the caller's table, of which the front was refined
-module _ {G : Graph} {k bound : ℕ} {ladder : List ℕ} {rung : ℕ} (table : List ℕ) (D : Descends G k bound ladder rung (take (vertices G) table))
-    (parts : List ℕ) {moves : ℕ} (e : tallyOf parts moves ≡ refined G k bound (rowsIn ladder (vertices G)) rung (take (vertices G) table)) where
-  good : Good G k bound (rowsIn ladder (vertices G)) rung (stateOf 0 parts)
-  good = rw (ap (λ (t : Tally). t .parts) e) (refined-good G (D .proper) k bound (rowsIn ladder (vertices G)) rung (D .hierarchy) rung (take (vertices G) table) (D .good))
+module _ {G : Graph} {k bound : ℕ} {rows : List ℕ} {rung : ℕ} (table : List ℕ) (D : Descends G k bound rows rung (take (vertices G) table))
+    (parts : List ℕ) {moves : ℕ} (e : tallyOf parts moves ≡ refined G k bound (rowsIn rows (vertices G)) rung (take (vertices G) table)) where
+  good : Good G k bound (rowsIn rows (vertices G)) rung (stateOf 0 parts)
+  good = rw (ap (λ (t : Tally). t .parts) e) (refined-good G (D .proper) k bound (rowsIn rows (vertices G)) rung (D .hierarchy) rung (take (vertices G) table) (D .good))
 
   front : take (vertices G) (parts ++ drop (vertices G) table) ≡ parts
   front = take-at parts (drop (vertices G) table) (vertices G) (good .whole)
@@ -111,7 +111,7 @@ module _ {G : Graph} {k bound : ℕ} {ladder : List ℕ} {rung : ℕ} (table : L
   front-joins =
       (rw front (proper-joins (D .proper) parts (good .whole) (λ v l. omega (arith, good .below v (omega (arith, good .whole)), D .few))), D .proper .formed .same-widths)
 
-  pub front-refined : {r : ℕ} → r ≡ cutOf G (take (vertices G) (parts ++ drop (vertices G) table)) → Refined G k bound ladder rung table (parts ++ drop (vertices G) table) (record { cut = r; moves = moves })
+  pub front-refined : {r : ℕ} → r ≡ cutOf G (take (vertices G) (parts ++ drop (vertices G) table)) → Refined G k bound rows rung table (parts ++ drop (vertices G) table) (record { cut = r; moves = moves })
   unfolding over
   front-refined h =
       record {
@@ -132,8 +132,8 @@ lower-top H l =
     }
 
 -- what a caller has: a good table on one of the kept rungs
-pub descends : {G : Graph} {k bound : ℕ} {ladder : List ℕ} {top rung : ℕ} {parts : List ℕ} → Proper G → Hierarchy G (rowsIn ladder (vertices G)) top → suc top * vertices G ≤ length ladder
-    → Good G k bound (rowsIn ladder (vertices G)) top (stateOf rung parts) → k ≤ 16 → Descends G k bound ladder rung parts
+pub descends : {G : Graph} {k bound : ℕ} {rows : List ℕ} {top rung : ℕ} {parts : List ℕ} → Proper G → Hierarchy G (rowsIn rows (vertices G)) top → suc top * vertices G ≤ length rows
+    → Good G k bound (rowsIn rows (vertices G)) top (stateOf rung parts) → k ≤ 16 → Descends G k bound rows rung parts
 descends {G} {top = top} {rung = rung} P H held I few =
     record {
       proper = P;

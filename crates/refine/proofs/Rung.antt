@@ -1,16 +1,15 @@
 -- Passes until one moves nothing, as the code repeats them.
 use Prim.Native.Nat.{ℕ, zero, suc, _+_, _≤_, _<_, _^_}
 use mathlib.Core.Path.{_≡_, refl, sym, ap, subst, _∙_}
-use mathlib.Core.Bool.{true, false}
 use mathlib.Core.List.{List}
 use native.Mathlib.Nat.{not-suc-le-zero}
 use native.Mathlib.Omega.{arith}
 use lib.Dec.{eqb}
 use lib.ListN.{length, getD}
 use borrow.Author.Tests.{eq-eqb, ne-eqb}
-use Rattle.folds.specs.Fold.{pick, when, sumTo, turns}
+use Rattle.folds.specs.Fold.{when, sumTo, turns}
 use Rattle.folds.proofs.Sums.{sumTo-ext, sumTo-only, sumTo-swap, sumTo-mono, sumTo-member}
-use Rattle.graph.specs.Graph.{Graph, vertices, edges, via, partCost, through, Formed, RowOf, Proper}
+use Rattle.graph.specs.Graph.{Graph, vertices, edges, via, through, Formed, Proper}
 use Rattle.graph.specs.Links.{Joins, Linked}
 use Rattle.graph.specs.Rows.{clusters}
 use Rattle.graph.proofs.Edges.{length-through}
@@ -21,7 +20,7 @@ use Rattle.moves.proofs.Own.{pass-steps, pass-still, pass-falls, steps-good, st
 use Rattle.visit.specs.Visit.{Placed}
 use Rattle.refine.specs.declared.PartSums.{PartSums}
 use Rattle.refine.specs.Sums.{SumsOf}
-use Rattle.refine.specs.Work.{Wired, Work, net, worked}
+use Rattle.refine.specs.Work.{Indexed, Work, net, worked}
 use Rattle.refine.specs.Tables.{Summed, Keyed, Shared, Inherits}
 use Rattle.refine.specs.Rung.{Ready, Settled}
 use Rattle.refine.proofs.Tables.{summed-cost, inherits-through}
@@ -35,8 +34,7 @@ ones (suc m) = omega (arith, ones m)
 -- no more clusters than vertices, where none is empty
 pub clusters-few : (row : List ℕ) (n g : ℕ) → ((v : ℕ) → v < n → getD row v 0 < g) → ((c : ℕ) → c < g → (v : ℕ) × (v < n) × (getD row v 0 ≡ c)) → g ≤ n
 clusters-few row n g low onto =
-    omega
-    (
+    omega (
       arith,
       ones g,
       ones n,
@@ -117,7 +115,7 @@ module _ (G : Graph) (P : Proper G) (k bound : ℕ) (few : k ≤ 16) (row costs 
           good = rw parts-as (steps-good G P k bound (λ r. row) 0 (alone row (C .whole)) {s = s} (x .good) (pass-steps G P k bound (λ r. row) 0 (alone row (C .whole)) 0 s));
           going = rw (follows .is) (going-turn s R (x .good) (λ e. n (moves-as ∙ e)) (x .going));
           room = rw (moves-as, parts-as)
-            (omega (arith, x .room, steps-fall G P k bound (λ r. row) 0 (alone row (C .whole)) {s = s} (x .good) (pass-steps G P k bound (λ r. row) 0 (alone row (C .whole)) 0 s)));
+              (omega (arith, x .room, steps-fall G P k bound (λ r. row) 0 (alone row (C .whole)) {s = s} (x .good) (pass-steps G P k bound (λ r. row) 0 (alone row (C .whole)) 0 s)));
         }
 
     -- a pass that moved nothing: there
@@ -169,9 +167,9 @@ module _ {G : Graph} {k bound : ℕ} {row parts : List ℕ} {moves : ℕ} (A : R
   pub ready-joins : Joins row (G .starts) (G .ends)
   ready-joins = proper-joins (A .proper) row (A .row-of .whole) low
 
-  pub ready-wired : {head next head-in next-in : List ℕ} → Linked (via row (G .starts)) (length (G .starts)) head next → Linked (via row (G .ends)) (length (G .ends)) head-in next-in
-      → Wired row (G .starts) (G .ends) (G .widths) head next head-in next-in
-  ready-wired a b = record { joins = ready-joins; same = A .proper .formed .same-widths; out = a; into = b }
+  pub ready-indexed : {head next head-in next-in : List ℕ} → Linked (via row (G .starts)) (length (G .starts)) head next → Linked (via row (G .ends)) (length (G .ends)) head-in next-in
+      → Indexed row (G .starts) (G .ends) (G .widths) head next head-in next-in
+  ready-indexed a b = record { joins = ready-joins; same = A .proper .formed .same-widths; out = a; into = b }
 
 pub ready-stands : {G : Graph} {k bound : ℕ} {row : List ℕ} (w : Work) → Ready G k bound row (through row (w .table)) (w .moves)
     → SumsOf (G .costs) (through row (w .table)) k (w .sums) → Placed (w .table) → Stands G k bound row (refinedOn G k bound row (tallyOf (through row (w .table)) (w .moves))) w

@@ -1,15 +1,14 @@
 -- Laws of the record of part sums.
 use Prim.Native.Nat.{ℕ, _+_, _-_, _≤_, _<_, _^_}
 use mathlib.Core.Path.{_≡_, refl, sym, _∙_}
-use mathlib.Core.Bool.{Bool, true, false, not, _&&_}
+use mathlib.Core.Bool.{true, false}
 use mathlib.Core.List.{List}
 use native.Mathlib.Omega.{arith}
-use lib.Dec.{eqb, ltb, leb}
-use lib.ListN.{length, getD, set, length-set}
+use lib.Dec.{ltb, leb}
+use lib.ListN.{getD, set, length-set}
 use lib.Seq.{getD-set-same, getD-set-other}
-use borrow.Author.Tests.{eqb-true, eqb-false, ltb-true, lt-ltb, le-ltb, leb-true, lt-leb, le-leb, eq-eqb, ne-eqb}
-use Rattle.folds.specs.Fold.{pick, when, sumTo, anyTo}
-use Rattle.folds.proofs.Cases.{by, both, either, eq-or-ne, same-test}
+use borrow.Author.Tests.{ltb-true, lt-ltb, le-ltb, leb-true, lt-leb, le-leb}
+use Rattle.folds.proofs.Cases.{both, either, eq-or-ne, same-test}
 use Rattle.graph.specs.Graph.{partCost}
 use Rattle.refine.specs.declared.PartSums.{PartSums}
 use Rattle.refine.specs.Sums.{SumsOf, sumsAllow, Shifts, shifted, Shifted}
@@ -32,8 +31,8 @@ module _ (S : PartSums) (from to cost bound : ℕ) where
   allow-last l h =
       rw (lt-ltb cost (getD (S .sums) from 0) l)
       (same-test (leb cost (bound - getD (S .sums) to 0)) (leb (getD (S .sums) to 0 + cost) bound)
-        (λ t. let l = leb-true cost (bound - getD (S .sums) to 0) t in le-leb (getD (S .sums) to 0 + cost) bound (omega arith))
-        (λ t. let l = leb-true (getD (S .sums) to 0 + cost) bound t in le-leb cost (bound - getD (S .sums) to 0) (omega arith)))
+      (λ t. let l = leb-true cost (bound - getD (S .sums) to 0) t in le-leb (getD (S .sums) to 0 + cost) bound (omega arith))
+      (λ t. let l = leb-true (getD (S .sums) to 0 + cost) bound t in le-leb cost (bound - getD (S .sums) to 0) (omega arith)))
 
   pub allowed-shifts : sumsAllow S from to cost bound ≡ true → from < 16 → to < 16 → bound < 2 ^ 32 → Shifts S from to cost
   unfolding sumsAllow
@@ -57,11 +56,11 @@ module _ (S : PartSums) (from to cost bound : ℕ) where
         counts = R .counts;
         long = length-set (set sums from less) to more ∙ length-set sums from less ∙ R .long;
         is = λ u l.
-          either (eq-or-ne u to)
-          (λ e. rw (e, getD-set-same (set sums from less) to more 0 (omega (arith, length-set sums from less, R .long))) (omega (arith, new, R .is to lt)))
-          (λ m. getD-set-other (set sums from less) to u more 0 m
+            either (eq-or-ne u to)
+            (λ e. rw (e, getD-set-same (set sums from less) to more 0 (omega (arith, length-set sums from less, R .long))) (omega (arith, new, R .is to lt)))
+            (λ m. getD-set-other (set sums from less) to u more 0 m
             ∙ either (eq-or-ne u from) (λ e. rw (e, getD-set-same sums from less 0 (omega (arith, R .long))) (omega (arith, old, R .is from lf)))
-              (λ o. getD-set-other sums from u less 0 o ∙ R .is u l ∙ sym (third u (λ e. o (sym e)) (λ e. m (sym e)))));
+            (λ o. getD-set-other sums from u less 0 o ∙ R .is u l ∙ sym (third u (λ e. o (sym e)) (λ e. m (sym e)))));
       }
     where
       sums : List ℕ

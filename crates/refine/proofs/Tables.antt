@@ -1,22 +1,21 @@
 -- Laws of the loops over vertices.
-use Prim.Native.Nat.{ℕ, zero, suc, _+_, _*_, _≤_, _<_, max}
-use mathlib.Core.Path.{_≡_, refl, sym, ap, _∙_}
-use mathlib.Core.Bool.{Bool, true, false}
+use Prim.Native.Nat.{ℕ, suc, _+_, _≤_, _<_, max}
+use mathlib.Core.Path.{_≡_, refl, sym, _∙_}
 use mathlib.Core.List.{List}
 use native.Mathlib.Numerals.{add-one}
 use native.Mathlib.Omega.{arith}
 use lib.Dec.{eqb, ltb}
-use lib.ListN.{length, getD, set, length-set, replicate, getD-replicate, length-replicate}
+use lib.ListN.{length, getD, set, length-set, replicate, getD-replicate}
 use lib.Seq.{getD-set-same, getD-set-other}
 use borrow.Author.Tests.{ltb-true, ltb-false}
-use Rattle.folds.specs.Fold.{when, sumTo, maxTo, listTo, Read, Filled}
+use Rattle.folds.specs.Fold.{when, maxTo, Read, Filled}
 use Rattle.folds.proofs.Cases.{by, either, eq-or-ne, last-or}
 use Rattle.folds.proofs.Sums.{sumTo-zero, sumTo-step, sumTo-le}
 use Rattle.folds.proofs.Lists.{set-add, listed}
 use Rattle.folds.proofs.Slices.{filled-all}
 use Rattle.graph.specs.Graph.{costIn, partCost, through}
 use Rattle.graph.specs.Rows.{clusters}
-use Rattle.graph.proofs.Edges.{cost-in-le, length-through, through-at}
+use Rattle.graph.proofs.Edges.{cost-in-le}
 use Rattle.moves.specs.Pass.{greater}
 use Rattle.visit.specs.Visit.{Placed}
 use Rattle.refine.specs.Tables.{Keyed, Summed, Shared, Inherits}
@@ -33,10 +32,10 @@ module _ (keys costs : List ℕ) where
       record {
         long = length-set sums c _ ∙ s .long;
         is = λ u lu.
-          let low = k .low i l in
-          let q : c < length sums = rw (rc .is, s .long) low in
-          let t : when (eqb c u) x ≡ when (eqb (getD keys i 0) u) (getD costs i 0) = rw (rc .is, rx .is) in
-          omega (arith, set-add sums c x u q, s .is u lu, sumTo-step i (λ v. when (eqb (getD keys v 0) u) (getD costs v 0)), t);
+            let low = k .low i l in
+            let q : c < length sums = rw (rc .is, s .long) low in
+            let t : when (eqb c u) x ≡ when (eqb (getD keys i 0) u) (getD costs i 0) = rw (rc .is, rx .is) in
+            omega (arith, set-add sums c x u q, s .is u lu, sumTo-step i (λ v. when (eqb (getD keys v 0) u) (getD costs v 0)), t);
       }
 
   pub summed-room : {g i : ℕ} (sums : List ℕ) → Summed keys costs g i sums → i ≤ 512 → ((v : ℕ) → getD costs v 0 ≤ 65535) → (u : ℕ) → u < g → getD sums u 0 ≤ 33553920
@@ -63,13 +62,13 @@ inherits-turn row parts table {i} {c} {x} s l rc rx I =
       placed = record {
         long = length-set table c x ∙ I .placed .long;
         low = λ a la.
-          either (eq-or-ne a c) (λ e. rw (e, getD-set-same table c x 0 inside) (rw (rx .is) (s .few i l)))
-          (λ n. rw (getD-set-other table c a x 0 n) (I .placed .low a la));
+            either (eq-or-ne a c) (λ e. rw (e, getD-set-same table c x 0 inside) (rw (rx .is) (s .few i l)))
+            (λ n. rw (getD-set-other table c a x 0 n) (I .placed .low a la));
       };
       is = λ v lv.
-        either (eq-or-ne (getD row v 0) c)
-        (λ e. rw (e, getD-set-same table c x 0 inside) (rx .is ∙ s .shared i v l (in-row v lv) (sym (rc .is) ∙ sym e)))
-        (λ n. getD-set-other table c (getD row v 0) x 0 n
+          either (eq-or-ne (getD row v 0) c)
+          (λ e. rw (e, getD-set-same table c x 0 inside) (rx .is ∙ s .shared i v l (in-row v lv) (sym (rc .is) ∙ sym e)))
+          (λ n. getD-set-other table c (getD row v 0) x 0 n
           ∙ either (last-or (rw add-one at lv)) (λ e. absurd (n (rw e (sym (rc .is))))) (λ h. I .is v h));
     }
   where

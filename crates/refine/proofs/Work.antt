@@ -1,24 +1,23 @@
 -- The choice of a part and the visit of a cluster, from what the code's branches say.
 use Prim.Native.Nat.{ℕ, _+_, _-_, _≤_, _<_}
-use mathlib.Core.Path.{_≡_, refl, sym, ap, _∙_}
+use mathlib.Core.Path.{_≡_, refl, ap, _∙_}
 use mathlib.Core.Bool.{Bool, true, false, _&&_}
 use mathlib.Core.List.{List}
 use native.Mathlib.Omega.{arith}
-use lib.Dec.{eqb, ltb, leb}
-use lib.ListN.{length, getD, set, length-set}
+use lib.Dec.{ltb, leb}
+use lib.ListN.{getD, set, length-set}
 use lib.Seq.{getD-set-same, getD-set-other}
 use borrow.Author.Tests.{lt-ltb, le-ltb, le-leb, lt-leb, ltb-true, leb-true, eq-eqb, ne-eqb}
 use Rattle.folds.specs.Fold.{pick, turns}
 use Rattle.folds.proofs.Cases.{by, both, either, eq-or-ne}
 use Rattle.folds.proofs.Loops.{turns-zero, turns-turn}
-use Rattle.graph.specs.Graph.{Graph, through}
+use Rattle.graph.specs.Graph.{through}
 use Rattle.moves.specs.Move.{pull}
 use Rattle.moves.specs.Pass.{lowestNext, aboveBefore}
 use Rattle.visit.specs.Visit.{Placed, Seen}
 use Rattle.refine.specs.declared.PartSums.{PartSums}
-use Rattle.refine.specs.declared.Progress.{Progress}
 use Rattle.refine.specs.Sums.{sumsAllow, shifted}
-use Rattle.refine.specs.Work.{betterOf, backOf, choiceOf, Chosen, Work, workOf, net, choiceAt, movedBy, worked, Done}
+use Rattle.refine.specs.Work.{betterOf, backOf, choiceOf, Chosen, Work, net, choiceAt, movedBy, worked, Done}
 
 module _ (f : ℕ → ℕ) (S : PartSums) (own cost bound : ℕ) where
   pub back-none : (high : ℕ) → high ≡ 0 → own ≡ backOf f S own cost bound high
@@ -88,8 +87,8 @@ placed-set {table} h t p l =
     record {
       long = length-set table h t ∙ p .long;
       low = λ c lc.
-        either (eq-or-ne c h) (λ e. rw (e, getD-set-same table h t 0 (omega (arith, p .long))) l)
-        (λ n. rw (getD-set-other table h c t 0 n) (p .low c lc));
+          either (eq-or-ne c h) (λ e. rw (e, getD-set-same table h t 0 (omega (arith, p .long))) l)
+          (λ n. rw (getD-set-other table h c t 0 n) (p .low c lc));
     }
 
 module _ (row starts ends widths costs : List ℕ) (bound h : ℕ) where

@@ -12,18 +12,18 @@ use Rattle.refine.specs.declared.Outcome.{Outcome}
 
 -- document 01: the ladder's row r is its n entries from r × n on
 abbrev pub rowsIn : List ℕ → ℕ → ℕ → List ℕ
-rowsIn ladder n r = part ladder (r * n) n
+rowsIn rows n r = part rows (r * n) n
 
 -- a table that is good on a rung of the ladder
-pub record Descends (G : Graph) (k bound : ℕ) (ladder : List ℕ) (rung : ℕ) (parts : List ℕ) : Type 0 where
+pub record Descends (G : Graph) (k bound : ℕ) (rows : List ℕ) (rung : ℕ) (parts : List ℕ) : Type 0 where
   pub proper : Proper G
-  pub hierarchy : Hierarchy G (rowsIn ladder (vertices G)) rung
-  pub good : Good G k bound (rowsIn ladder (vertices G)) rung (stateOf rung parts)
+  pub hierarchy : Hierarchy G (rowsIn rows (vertices G)) rung
+  pub good : Good G k bound (rowsIn rows (vertices G)) rung (stateOf rung parts)
   pub few : k ≤ 16
-  pub held : suc rung * vertices G ≤ length ladder
+  pub held : suc rung * vertices G ≤ length rows
 
 -- the table, the number of moves and the cut after the refinement; entries past the vertices are untouched
-pub record Refined (G : Graph) (k bound : ℕ) (ladder : List ℕ) (rung : ℕ) (table table′ : List ℕ) (r : Outcome) : Type 0 where
-  pub table-is : table′ ≡ over (refined G k bound (rowsIn ladder (vertices G)) rung (take (vertices G) table) .parts) table
-  pub moves-is : r .moves ≡ refined G k bound (rowsIn ladder (vertices G)) rung (take (vertices G) table) .moves
-  pub cut-is : r .cut ≡ cutOf G (refined G k bound (rowsIn ladder (vertices G)) rung (take (vertices G) table) .parts)
+pub record Refined (G : Graph) (k bound : ℕ) (rows : List ℕ) (rung : ℕ) (table table′ : List ℕ) (r : Outcome) : Type 0 where
+  pub table-is : table′ ≡ over (refined G k bound (rowsIn rows (vertices G)) rung (take (vertices G) table) .parts) table
+  pub moves-is : r .moves ≡ refined G k bound (rowsIn rows (vertices G)) rung (take (vertices G) table) .moves
+  pub cut-is : r .cut ≡ cutOf G (refined G k bound (rowsIn rows (vertices G)) rung (take (vertices G) table) .parts)

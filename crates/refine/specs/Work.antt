@@ -1,7 +1,7 @@
 -- The work on one rung, as the code does it: over a table of the clusters' parts and the record of sums.
 use Prim.Native.Nat.{ℕ, _+_, _-_, _≤_, _<_}
 use mathlib.Core.Path.{_≡_}
-use mathlib.Core.Bool.{Bool, true, _&&_}
+use mathlib.Core.Bool.{Bool, _&&_}
 use mathlib.Core.List.{List, []}
 use lib.Dec.{eqb, ltb, leb}
 use lib.ListN.{length, getD, set}
@@ -33,7 +33,7 @@ pub record Chosen (f : ℕ → ℕ) (S : PartSums) (own cost bound low high r : 
   pub within : r < 16
 
 -- the edges between the clusters of a row, and their lists by the cluster of the start and of the end
-pub record Wired (row starts ends widths head next head-in next-in : List ℕ) : Type 0 where
+pub record Indexed (row starts ends widths head next head-in next-in : List ℕ) : Type 0 where
   pub joins : Joins row starts ends
   pub same : length widths ≡ length starts
   pub out : Linked (via row starts) (length starts) head next
@@ -56,12 +56,12 @@ net starts ends widths = graphOf [] starts ends widths
 unfoldable pub choiceAt : Graph → List ℕ → List ℕ → ℕ → ℕ → Work → ℕ
 choiceAt N row costs bound h w =
     choiceOf (pull N row (through row (w .table)) h) (w .sums) (getD (w .table) h 0) (getD costs h 0) bound
-      (lowestNext N (w .sums .count) row (through row (w .table)) h) (aboveBefore N row (through row (w .table)) h)
+    (lowestNext N (w .sums .count) row (through row (w .table)) h) (aboveBefore N row (through row (w .table)) h)
 
 unfoldable pub movedBy : List ℕ → ℕ → ℕ → Work → Work
 movedBy costs h t w =
     pick (eqb t (getD (w .table) h 0)) w
-      (record { table = set (w .table) h t; sums = shifted (w .sums) (getD (w .table) h 0) t (getD costs h 0); moves = w .moves + 1 })
+    (record { table = set (w .table) h t; sums = shifted (w .sums) (getD (w .table) h 0) t (getD costs h 0); moves = w .moves + 1 })
 
 unfoldable pub worked : Graph → List ℕ → List ℕ → ℕ → ℕ → Work → Work
 worked N row costs bound h w = movedBy costs h (choiceAt N row costs bound h w) w

@@ -1,19 +1,18 @@
 // Refinement: clusters move between parts, down the rungs, where the cut falls.
+ghost use mathlib.Core.Bool.{true};
 ghost use mathlib.Core.Path.{_≡_};
-ghost use mathlib.Core.Bool.{true, false};
 ghost use Prim.Native.Nat.{ℕ, _+_, _<_, _≤_, _^_};
-ghost use lib.Dec.{ltb, leb};
 ghost use lib.ListN.{length, getD, take};
-ghost use Rattle.refine.specs.Sums.{SumsOf, sumsAllow, Shifts, Shifted};
-ghost use Rattle.moves.specs.Pass.{tallyOf, refinedOn, refined};
-ghost use Rattle.refine.specs.Down.{rowsIn, Descends, Refined};
-ghost use Rattle.refine.specs.Rung.{Ready, Settled};
 ghost use Rattle.folds.specs.Fold.{turns};
 ghost use Rattle.graph.specs.Graph.{graphOf, through};
 ghost use Rattle.graph.specs.Rows.{clusters};
-ghost use Rattle.refine.specs.Tables.{Keyed, Summed, Shared, Inherits};
+ghost use Rattle.moves.specs.Pass.{tallyOf, refinedOn, refined};
 ghost use Rattle.visit.specs.Visit.{Placed};
-ghost use Rattle.refine.specs.Work.{betterOf, backOf, Chosen, Wired, workOf, net, worked, Done};
+ghost use Rattle.refine.specs.Down.{rowsIn, Descends, Refined};
+ghost use Rattle.refine.specs.Rung.{Ready, Settled};
+ghost use Rattle.refine.specs.Sums.{SumsOf, sumsAllow, Shifts, Shifted};
+ghost use Rattle.refine.specs.Tables.{Keyed, Summed, Shared, Inherits};
+ghost use Rattle.refine.specs.Work.{betterOf, backOf, Chosen, Indexed, workOf, net, worked, Done};
 
 // The cost of each of up to 16 parts, and how many parts there are.
 pub struct PartSums {
@@ -29,7 +28,10 @@ impl PartSums {
     {
         let mut sums = [0u32; 16];
         sum_costs(parts, costs, &mut sums);
-        PartSums { sums: sums, count: k }
+        PartSums {
+            sums: sums,
+            count: k,
+        }
     }
 
     // Whether a cost may go from one part to another: the old part is not emptied, and the new one stays within the bound.
@@ -68,7 +70,15 @@ pub struct Progress {
 }
 
 // Part t, where it is allowed and the cluster is more tied to it than to the best part so far.
-fn better(toward: &[u32; 16], sums: PartSums, own: usize, t: usize, best: usize, cost: u32, bound: u32) -> usize
+fn better(
+    toward: &[u32; 16],
+    sums: PartSums,
+    own: usize,
+    t: usize,
+    best: usize,
+    cost: u32,
+    bound: u32,
+) -> usize
     requires { ⌜ length (now toward) ≡ 16 ⌝ }
     requires { ⌜ (own < 16) × (t < 16) × (best < 16) ⌝ }
     ensures { λ r. ⌜ r ≡ betterOf (λ u. getD (now (toward .entry)) u 0) sums own cost bound true t best ⌝ }
@@ -101,7 +111,15 @@ fn back(toward: &[u32; 16], sums: PartSums, own: usize, high: usize, cost: u32, 
 }
 
 // Where a cluster goes: of the allowed candidates the one that gains most, the back one where both gain the same, or its own part.
-fn choice(toward: &[u32; 16], sums: PartSums, own: usize, low: usize, high: usize, cost: u32, bound: u32) -> usize
+fn choice(
+    toward: &[u32; 16],
+    sums: PartSums,
+    own: usize,
+    low: usize,
+    high: usize,
+    cost: u32,
+    bound: u32,
+) -> usize
     requires { ⌜ length (now toward) ≡ 16 ⌝ }
     requires { ⌜ (own < 16) × (sums .count ≤ 16) ⌝ }
     ensures { λ r. ⌜ Chosen (λ u. getD (now (toward .entry)) u 0) sums own cost bound low high r ⌝ }
@@ -117,8 +135,22 @@ fn choice(toward: &[u32; 16], sums: PartSums, own: usize, low: usize, high: usiz
 }
 
 // Visits cluster h, and moves it where an allowed candidate gains. The first pair of links is by the edges' starts, the second by their ends.
-fn refine_cluster(row: &[u16], starts: &[u16], ends: &[u16], widths: &[u16], head: &[u16; 512], next: &[u16; 1024], head_in: &[u16; 512], next_in: &[u16; 1024], costs: &[u32; 512], bound: u32, h: usize, table: &mut [u16; 512], before: Progress) -> Progress
-    requires { ⌜ Wired (now row) (now starts) (now ends) (now widths) (now head) (now next) (now «head_in») (now «next_in») ⌝ }
+fn refine_cluster(
+    row: &[u16],
+    starts: &[u16],
+    ends: &[u16],
+    widths: &[u16],
+    head: &[u16; 512],
+    next: &[u16; 1024],
+    head_in: &[u16; 512],
+    next_in: &[u16; 1024],
+    costs: &[u32; 512],
+    bound: u32,
+    h: usize,
+    table: &mut [u16; 512],
+    before: Progress,
+) -> Progress
+    requires { ⌜ Indexed (now row) (now starts) (now ends) (now widths) (now head) (now next) (now «head_in») (now «next_in») ⌝ }
     requires { ⌜ Placed (now table) ⌝ }
     requires { ⌜ (h < 512) × (length (now costs) ≡ 512) × (before .sums .count ≤ 16) × (before .moves < 2 ^ 33) ⌝ }
     ensures { λ r. ⌜ Done (workOf (now (table .entry)) before) (workOf (now (table .exit)) r) 1 (worked (net (now (starts .entry)) (now (ends .entry)) (now (widths .entry))) (now (row .entry)) (now (costs .entry)) bound h (workOf (now (table .entry)) before)) ⌝ }
@@ -126,7 +158,20 @@ fn refine_cluster(row: &[u16], starts: &[u16], ends: &[u16], widths: &[u16], hea
     let sums = before.sums;
     let own = visit::part_at(table, h);
     let mut toward = [0u32; 16];
-    let span = visit::visit(row, starts, ends, widths, table, head, next, head_in, next_in, h, sums.count, &mut toward);
+    let span = visit::visit(
+        row,
+        starts,
+        ends,
+        widths,
+        table,
+        head,
+        next,
+        head_in,
+        next_in,
+        h,
+        sums.count,
+        &mut toward,
+    );
     let cost = costs[h];
     let t = choice(&toward, sums, own, span.low, span.high, cost, bound);
     if t == own {
@@ -134,12 +179,29 @@ fn refine_cluster(row: &[u16], starts: &[u16], ends: &[u16], widths: &[u16], hea
     }
     table[h] = t as u16;
     let after = sums.moved(own, t, cost);
-    Progress { sums: after, moves: before.moves + 1 }
+    Progress {
+        sums: after,
+        moves: before.moves + 1,
+    }
 }
 
 // A pass: visits the clusters below g in number order.
-fn pass(row: &[u16], starts: &[u16], ends: &[u16], widths: &[u16], head: &[u16; 512], next: &[u16; 1024], head_in: &[u16; 512], next_in: &[u16; 1024], costs: &[u32; 512], bound: u32, g: usize, table: &mut [u16; 512], before: Progress) -> Progress
-    requires { ⌜ Wired (now row) (now starts) (now ends) (now widths) (now head) (now next) (now «head_in») (now «next_in») ⌝ }
+fn pass(
+    row: &[u16],
+    starts: &[u16],
+    ends: &[u16],
+    widths: &[u16],
+    head: &[u16; 512],
+    next: &[u16; 1024],
+    head_in: &[u16; 512],
+    next_in: &[u16; 1024],
+    costs: &[u32; 512],
+    bound: u32,
+    g: usize,
+    table: &mut [u16; 512],
+    before: Progress,
+) -> Progress
+    requires { ⌜ Indexed (now row) (now starts) (now ends) (now widths) (now head) (now next) (now «head_in») (now «next_in») ⌝ }
     requires { ⌜ Placed (now table) ⌝ }
     requires { ⌜ (g ≤ 512) × (length (now costs) ≡ 512) × (before .sums .count ≤ 16) × (before .moves < 2 ^ 32) ⌝ }
     ensures { λ r. ⌜ Done (workOf (now (table .entry)) before) (workOf (now (table .exit)) r) g (turns g (worked (net (now (starts .entry)) (now (ends .entry)) (now (widths .entry))) (now (row .entry)) (now (costs .entry)) bound) (workOf (now (table .entry)) before)) ⌝ }
@@ -147,7 +209,21 @@ fn pass(row: &[u16], starts: &[u16], ends: &[u16], widths: &[u16], head: &[u16; 
     let mut p = before;
     let mut h: usize = 0;
     while h < g {
-        p = refine_cluster(row, starts, ends, widths, head, next, head_in, next_in, costs, bound, h, table, p);
+        p = refine_cluster(
+            row,
+            starts,
+            ends,
+            widths,
+            head,
+            next,
+            head_in,
+            next_in,
+            costs,
+            bound,
+            h,
+            table,
+            p,
+        );
         h += 1;
     }
     p
@@ -214,8 +290,21 @@ fn hand_down(row: &[u16], table: &[u16; 512], parts: &mut [u16])
 }
 
 // Passes over the clusters of a row until one moves nothing: the moves made by then.
-fn settle(row: &[u16], starts: &[u16], ends: &[u16], widths: &[u16], head: &[u16; 512], next: &[u16; 1024], head_in: &[u16; 512], next_in: &[u16; 1024], costs: &[u16], bound: u32, table: &mut [u16; 512], before: Progress) -> usize
-    requires { ⌜ Wired (now row) (now starts) (now ends) (now widths) (now head) (now next) (now «head_in») (now «next_in») ⌝ }
+fn settle(
+    row: &[u16],
+    starts: &[u16],
+    ends: &[u16],
+    widths: &[u16],
+    head: &[u16; 512],
+    next: &[u16; 1024],
+    head_in: &[u16; 512],
+    next_in: &[u16; 1024],
+    costs: &[u16],
+    bound: u32,
+    table: &mut [u16; 512],
+    before: Progress,
+) -> usize
+    requires { ⌜ Indexed (now row) (now starts) (now ends) (now widths) (now head) (now next) (now «head_in») (now «next_in») ⌝ }
     requires { ⌜ Placed (now table) ⌝ }
     requires { ⌜ SumsOf (now costs) (through (now row) (now table)) (before .sums .count) (before .sums) ⌝ }
     requires { ⌜ Ready (graphOf (now costs) (now starts) (now ends) (now widths)) (before .sums .count) bound (now row) (through (now row) (now table)) (before .moves) ⌝ }
@@ -227,7 +316,21 @@ fn settle(row: &[u16], starts: &[u16], ends: &[u16], widths: &[u16], head: &[u16
     let mut p = before;
     loop {
         let moves = p.moves;
-        p = pass(row, starts, ends, widths, head, next, head_in, next_in, &cluster_costs, bound, g, table, p);
+        p = pass(
+            row,
+            starts,
+            ends,
+            widths,
+            head,
+            next,
+            head_in,
+            next_in,
+            &cluster_costs,
+            bound,
+            g,
+            table,
+            p,
+        );
         if p.moves == moves {
             return moves;
         }
@@ -235,7 +338,17 @@ fn settle(row: &[u16], starts: &[u16], ends: &[u16], widths: &[u16], head: &[u16
 }
 
 // The refinement on one row, from a table of the vertices' parts: the moves made by then.
-pub fn refine_row(costs: &[u16], starts: &[u16], ends: &[u16], widths: &[u16], k: usize, bound: u32, row: &[u16], parts: &mut [u16], moves: usize) -> usize
+pub fn refine_row(
+    costs: &[u16],
+    starts: &[u16],
+    ends: &[u16],
+    widths: &[u16],
+    k: usize,
+    bound: u32,
+    row: &[u16],
+    parts: &mut [u16],
+    moves: usize,
+) -> usize
     requires { ⌜ Ready (graphOf (now costs) (now starts) (now ends) (now widths)) k bound (now row) (now parts) moves ⌝ }
     ensures { λ r. ⌜ tallyOf (now (parts .exit)) r ≡ refinedOn (graphOf (now (costs .entry)) (now (starts .entry)) (now (ends .entry)) (now (widths .entry))) k bound (now (row .entry)) (tallyOf (now (parts .entry)) moves) ⌝ }
 {
@@ -248,16 +361,42 @@ pub fn refine_row(costs: &[u16], starts: &[u16], ends: &[u16], widths: &[u16], k
     let mut table = [0u16; 512];
     inherit(row, parts, &mut table);
     let sums = PartSums::of_table(costs, parts, k);
-    let before = Progress { sums: sums, moves: moves };
-    let after = settle(row, starts, ends, widths, &head, &next, &head_in, &next_in, costs, bound, &mut table, before);
+    let before = Progress {
+        sums: sums,
+        moves: moves,
+    };
+    let after = settle(
+        row,
+        starts,
+        ends,
+        widths,
+        &head,
+        &next,
+        &head_in,
+        &next_in,
+        costs,
+        bound,
+        &mut table,
+        before,
+    );
     hand_down(row, &table, parts);
     after
 }
 
 // The refinement on a rung and then on each lower one: row r is the part of the ladder from r × n on.
-fn refine_down(costs: &[u16], starts: &[u16], ends: &[u16], widths: &[u16], k: usize, bound: u32, ladder: &[u16], rung: usize, parts: &mut [u16]) -> usize
-    requires { ⌜ Descends (graphOf (now costs) (now starts) (now ends) (now widths)) k bound (now ladder) rung (now parts) ⌝ }
-    ensures { λ r. ⌜ tallyOf (now (parts .exit)) r ≡ refined (graphOf (now (costs .entry)) (now (starts .entry)) (now (ends .entry)) (now (widths .entry))) k bound (rowsIn (now (ladder .entry)) (length (now (costs .entry)))) rung (now (parts .entry)) ⌝ }
+fn refine_down(
+    costs: &[u16],
+    starts: &[u16],
+    ends: &[u16],
+    widths: &[u16],
+    k: usize,
+    bound: u32,
+    rows: &[u16],
+    rung: usize,
+    parts: &mut [u16],
+) -> usize
+    requires { ⌜ Descends (graphOf (now costs) (now starts) (now ends) (now widths)) k bound (now rows) rung (now parts) ⌝ }
+    ensures { λ r. ⌜ tallyOf (now (parts .exit)) r ≡ refined (graphOf (now (costs .entry)) (now (starts .entry)) (now (ends .entry)) (now (widths .entry))) k bound (rowsIn (now (rows .entry)) (length (now (costs .entry)))) rung (now (parts .entry)) ⌝ }
 {
     let n = costs.len();
     let mut moves: usize = 0;
@@ -265,7 +404,17 @@ fn refine_down(costs: &[u16], starts: &[u16], ends: &[u16], widths: &[u16], k: u
     while r > 0 {
         r -= 1;
         let a = r * n;
-        moves = refine_row(costs, starts, ends, widths, k, bound, &ladder[a..a + n], parts, moves);
+        moves = refine_row(
+            costs,
+            starts,
+            ends,
+            widths,
+            k,
+            bound,
+            &rows[a..a + n],
+            parts,
+            moves,
+        );
     }
     moves
 }
@@ -277,13 +426,36 @@ pub struct Outcome {
 }
 
 // The refinement of a table from a rung of the ladder down to the vertices. Entries past the vertices are untouched.
-pub fn refine(costs: &[u16], starts: &[u16], ends: &[u16], widths: &[u16], k: usize, bound: u32, ladder: &[u16], rung: usize, table: &mut [u16]) -> Outcome
+pub fn refine(
+    costs: &[u16],
+    starts: &[u16],
+    ends: &[u16],
+    widths: &[u16],
+    k: usize,
+    bound: u32,
+    rows: &[u16],
+    rung: usize,
+    table: &mut [u16],
+) -> Outcome
     requires { ⌜ length (now costs) ≤ length (now table) ⌝ }
-    requires { ⌜ Descends (graphOf (now costs) (now starts) (now ends) (now widths)) k bound (now ladder) rung (take (length (now costs)) (now table)) ⌝ }
-    ensures { λ r. ⌜ Refined (graphOf (now (costs .entry)) (now (starts .entry)) (now (ends .entry)) (now (widths .entry))) k bound (now (ladder .entry)) rung (now (table .entry)) (now (table .exit)) r ⌝ }
+    requires { ⌜ Descends (graphOf (now costs) (now starts) (now ends) (now widths)) k bound (now rows) rung (take (length (now costs)) (now table)) ⌝ }
+    ensures { λ r. ⌜ Refined (graphOf (now (costs .entry)) (now (starts .entry)) (now (ends .entry)) (now (widths .entry))) k bound (now (rows .entry)) rung (now (table .entry)) (now (table .exit)) r ⌝ }
 {
     let n = costs.len();
-    let moves = refine_down(costs, starts, ends, widths, k, bound, ladder, rung, &mut table[..n]);
+    let moves = refine_down(
+        costs,
+        starts,
+        ends,
+        widths,
+        k,
+        bound,
+        rows,
+        rung,
+        &mut table[..n],
+    );
     let cut = graph::cut_of(&table[..n], starts, ends, widths);
-    Outcome { cut: cut, moves: moves }
+    Outcome {
+        cut: cut,
+        moves: moves,
+    }
 }

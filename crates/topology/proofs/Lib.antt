@@ -3,3 +3,4 @@ pub mod Orders
 pub mod Reaches
 pub mod Searching
 pub mod Levels
+pub mod Sorted

@@ -1,13 +1,13 @@
 -- Walks along a cluster's edges that see the parts at the far ends.
-use Prim.Native.Nat.{ℕ, _+_, _*_, _≤_, _<_}
+use Prim.Native.Nat.{ℕ, _+_, _≤_, _<_}
 use mathlib.Core.Path.{_≡_, refl, sym, ap, _∙_}
-use mathlib.Core.Bool.{Bool, true, false, not, _&&_}
+use mathlib.Core.Bool.{true, false, _&&_}
 use mathlib.Core.List.{List}
 use native.Mathlib.Omega.{arith}
 use lib.Dec.{eqb}
 use lib.ListN.{length, getD, set, length-set, replicate, getD-replicate}
 use borrow.Author.Tests.{eq-eqb, ne-eqb}
-use Rattle.folds.specs.Fold.{pick, when, sumTo, turns}
+use Rattle.folds.specs.Fold.{when}
 use Rattle.folds.proofs.Cases.{when-le}
 use Rattle.folds.proofs.Lists.{set-add}
 use Rattle.folds.proofs.Sums.{sumTo-le}
@@ -83,13 +83,12 @@ module _ (row near far widths parts : List ℕ) (h : ℕ) where
             high-is = turns-next L h j _ 0 high (greater high (p + 1)) raised-acts o l (R .high-is) (rw (e, q));
             long = length-set now p _ ∙ R .long;
             toward-is = λ u lu.
-              omega
-              (
-                arith,
-                R .toward-is u lu,
-                set-add now p w u (omega (arith, R .long)),
-                sum-next L h j _ _ (share row near far widths parts h u) (share-only u) o l refl (at u),
-              );
+                omega (
+                  arith,
+                  R .toward-is u lu,
+                  set-add now p w u (omega (arith, R .long)),
+                  sum-next L h j _ _ (share row near far widths parts h u) (share-only u) o l refl (at u),
+                );
           }
         where
           at : (u : ℕ) → when (eqb p u) w ≡ share row near far widths parts h u j
@@ -104,13 +103,12 @@ room-next row near far widths parts {h} {m = m} l w R =
     record {
       long = R .long;
       room = λ u lu.
-        omega
-        (
-          arith,
-          R .toward-is u lu,
-          getD-replicate {A = ℕ} 16 u 0 0 lu,
-          sumTo-le m 65535 (share row near far widths parts h u) (share-le row near far widths parts h w u),
-        );
+          omega (
+            arith,
+            R .toward-is u lu,
+            getD-replicate {A = ℕ} 16 u 0 0 lu,
+            sumTo-le m 65535 (share row near far widths parts h u) (share-le row near far widths parts h w u),
+          );
     }
 
 -- the two ways together

@@ -4,7 +4,6 @@ use mathlib.Core.Path.{_≡_}
 use mathlib.Core.List.{List}
 use lib.ListN.{length, getD}
 use Rattle.folds.specs.Fold.{sumTo, turns}
-use Rattle.graph.specs.Graph.{through}
 use Rattle.moves.specs.Move.{share}
 use Rattle.moves.specs.Pass.{lowered, raised}
 

@@ -44,7 +44,18 @@ pub fn entry(s: &[u16], i: usize) -> u32
 }
 
 // The parts at the far ends of the edges whose near end is in h, and the width to each.
-fn reach(row: &[u16], near: &[u16], far: &[u16], widths: &[u16], table: &[u16; 512], head: &[u16; 512], next: &[u16; 1024], h: usize, k: usize, toward: &mut [u32; 16]) -> Span
+fn reach(
+    row: &[u16],
+    near: &[u16],
+    far: &[u16],
+    widths: &[u16],
+    table: &[u16; 512],
+    head: &[u16; 512],
+    next: &[u16; 1024],
+    h: usize,
+    k: usize,
+    toward: &mut [u32; 16],
+) -> Span
     requires { ⌜ Joins (now row) (now near) (now far) ⌝ }
     requires { ⌜ Placed (now table) ⌝ }
     requires { ⌜ length (now widths) ≡ length (now near) ⌝ }
@@ -68,11 +79,27 @@ fn reach(row: &[u16], near: &[u16], far: &[u16], widths: &[u16], table: &[u16; 5
             toward[p] = toward[p] + entry(widths, i);
         }
     }
-    Span { low: low, high: high }
+    Span {
+        low: low,
+        high: high,
+    }
 }
 
 // What the edges of h say of where it may go. The first pair of links is by the edges' starts, the second by their ends.
-pub fn visit(row: &[u16], starts: &[u16], ends: &[u16], widths: &[u16], table: &[u16; 512], head: &[u16; 512], next: &[u16; 1024], head_in: &[u16; 512], next_in: &[u16; 1024], h: usize, k: usize, toward: &mut [u32; 16]) -> Span
+pub fn visit(
+    row: &[u16],
+    starts: &[u16],
+    ends: &[u16],
+    widths: &[u16],
+    table: &[u16; 512],
+    head: &[u16; 512],
+    next: &[u16; 1024],
+    head_in: &[u16; 512],
+    next_in: &[u16; 1024],
+    h: usize,
+    k: usize,
+    toward: &mut [u32; 16],
+) -> Span
     requires { ⌜ Joins (now row) (now starts) (now ends) ⌝ }
     requires { ⌜ Placed (now table) ⌝ }
     requires { ⌜ length (now widths) ≡ length (now starts) ⌝ }
@@ -83,6 +110,20 @@ pub fn visit(row: &[u16], starts: &[u16], ends: &[u16], widths: &[u16], table: &
 {
     *toward = [0u32; 16];
     let out = reach(row, starts, ends, widths, table, head, next, h, k, toward);
-    let into = reach(row, ends, starts, widths, table, head_in, next_in, h, k, toward);
-    Span { low: out.low, high: into.high }
+    let into = reach(
+        row,
+        ends,
+        starts,
+        widths,
+        table,
+        head_in,
+        next_in,
+        h,
+        k,
+        toward,
+    );
+    Span {
+        low: out.low,
+        high: into.high,
+    }
 }

@@ -2,7 +2,7 @@ use Rattle.refine.proofs.Tables.{count-none, count-turn}
 use Rattle.graph.specs.Rows.{clusters}
 use Rattle.folds.specs.Fold.{maxTo}
 use Prim.Native.Nat.{suc, _≤_, _-_}
-use mathlib.Core.Path.{_≡_, refl, sym, ap, _∙_}
+use mathlib.Core.Path.{_≡_, refl}
 use native.Mathlib.Omega.{arith}
 use lib.ListN.{length, getD}
 use borrow.Author.Needs.{needs}

@@ -2,7 +2,7 @@ use Rattle.refine.proofs.Tables.{shared-in, through-filled}
 use Rattle.folds.specs.Fold.{Filled}
 use Rattle.folds.proofs.Slices.{filled-none, filled-turn}
 use Prim.Native.Nat.{_≤_, _-_}
-use mathlib.Core.Path.{_≡_, refl, sym, ap, _∙_}
+use mathlib.Core.Path.{_≡_, refl, ap}
 use native.Mathlib.Omega.{arith}
 use lib.ListN.{length, getD}
 use borrow.Author.Needs.{needs}

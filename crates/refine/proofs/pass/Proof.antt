@@ -2,7 +2,7 @@ use Rattle.refine.proofs.Work.{done-none, done-turn}
 use Rattle.refine.specs.Work.{workOf, net, worked, Done}
 use Rattle.folds.specs.Fold.{turns}
 use Prim.Native.Nat.{_≤_, _-_}
-use mathlib.Core.Path.{_≡_, refl}
+use mathlib.Core.Path.{_≡_}
 use native.Mathlib.Omega.{arith}
 use borrow.Author.Needs.{needs}
 use Rattle.refine.proofs.pass.Statement.{statement}

@@ -1,6 +1,6 @@
 use Rattle.refine.proofs.Work.{choice-at, worked-stay, worked-move, choice-allowed, placed-set}
 use Rattle.refine.proofs.Sums.{allowed-shifts}
-use mathlib.Core.Path.{_≡_, refl, sym, ap, _∙_}
+use mathlib.Core.Path.{refl, _∙_}
 use native.Mathlib.Omega.{arith}
 use borrow.Author.Needs.{needs}
 use Rattle.refine.proofs.refine_cluster.Statement.{statement}

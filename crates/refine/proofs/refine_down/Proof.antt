@@ -11,16 +11,16 @@ use Rattle.refine.proofs.refine_down.Statement.{statement}
 use Rattle.refine.proofs.refine_down.Tie as tie
 
 abbrev Inv-loop : tie.InvT-loop
-Inv-loop costs starts ends widths k bound ladder rung parts₀ n moves₀ r₀ parts moves r =
+Inv-loop costs starts ends widths k bound rows rung parts₀ n moves₀ r₀ parts moves r =
     (n ≡ length costs)
-    × Descent (graphOf costs starts ends widths) k bound (rowsIn ladder (length costs)) rung
-      (refined (graphOf costs starts ends widths) k bound (rowsIn ladder (length costs)) rung parts₀) r parts moves
+    × Descent (graphOf costs starts ends widths) k bound (rowsIn rows (length costs)) rung
+    (refined (graphOf costs starts ends widths) k bound (rowsIn rows (length costs)) rung parts₀) r parts moves
 
 abbrev μ-loop : tie.MeasureT-loop
-μ-loop costs starts ends widths k bound ladder rung parts₀ n moves₀ r₀ parts moves r = r
+μ-loop costs starts ends widths k bound rows rung parts₀ n moves₀ r₀ parts moves r = r
 
 -- the row at hand lies in the ladder
-held : (c : tie.In-loop Inv-loop μ-loop) → (c .before .loop .r - 1) * length (c .before .before .before .before .before .before .before .before .args .costs .now) + length (c .before .before .before .before .before .before .before .before .args .costs .now) ≤ length (c .before .before .before .before .before .before .before .before .args .ladder .now)
+held : (c : tie.In-loop Inv-loop μ-loop) → (c .before .loop .r - 1) * length (c .before .before .before .before .before .before .before .before .args .costs .now) + length (c .before .before .before .before .before .before .before .before .args .costs .now) ≤ length (c .before .before .before .before .before .before .before .before .args .rows .now)
 held c = row-held (c .before .loop .r) _ _ _ (c .loop-test .taken) (c .before .loop .inv .1 .within) (c .before .before .before .before .before .before .before .before .pre .held)
 
 pub refine-down-spec : {M : Type 1} → statement M

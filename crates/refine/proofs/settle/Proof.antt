@@ -5,8 +5,7 @@ use Rattle.refine.specs.Work.{workOf}
 use Rattle.graph.specs.Graph.{graphOf, through}
 use Rattle.graph.specs.Rows.{clusters}
 use Rattle.moves.specs.Pass.{tallyOf, measure, refinedOn}
-use Prim.Native.Nat.{ℕ, _≤_}
-use mathlib.Core.Path.{_≡_, refl}
+use mathlib.Core.Path.{_≡_}
 use native.Mathlib.Omega.{arith}
 use lib.ListN.{length}
 use borrow.Author.Needs.{needs}
@@ -17,7 +16,7 @@ abbrev Inv-loop : tie.InvT-loop
 Inv-loop row starts ends widths head next head-in next-in costs bound table₀ cluster-costs g p₀ table p =
     (g ≡ clusters row) × (length cluster-costs ≡ 512) × Priced (graphOf costs starts ends widths) row cluster-costs
     × Stands (graphOf costs starts ends widths) (p₀ .sums .count) bound row
-      (refinedOn (graphOf costs starts ends widths) (p₀ .sums .count) bound row (tallyOf (through row table₀) (p₀ .moves))) (workOf table p)
+    (refinedOn (graphOf costs starts ends widths) (p₀ .sums .count) bound row (tallyOf (through row table₀) (p₀ .moves))) (workOf table p)
 
 abbrev μ-loop : tie.MeasureT-loop
 μ-loop row starts ends widths head next head-in next-in costs bound table₀ cluster-costs g p₀ table p =

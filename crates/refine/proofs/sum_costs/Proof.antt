@@ -25,8 +25,7 @@ sum-costs-spec =
     (λ c κs. search needs)
     (λ c. let k = keyed-in (c .before .before .before .before .before .before .before .before .pre .0) (c .before .before .before .loop-test .taken) (c .before .before .at16 .ensures) in
     let w = c .before .before .before .before .loop .inv in
-    omega
-    (
+    omega (
       arith,
       summed-room _ _ _ (w .2) (omega (arith, c .before .before .before .before .before .before .before .before .pre .0 .few)) (λ v. omega (arith, c .before .before .before .before .before .before .shared-slice-known2 .given v)) _ k,
       c .entry .ensures .low,

@@ -43,8 +43,7 @@ reach-spec =
     let l = c .before .before .before .before .before .before .before .before .before .before .loop in
     let q = c .before .before .before .before .part-at in
     let f = share (s .args .row .now) (s .args .near .now) (s .args .far .now) (s .args .widths .now) (through (s .args .row .now) (s .args .table .now)) (s .args .h) (q .result) in
-    omega
-    (
+    omega (
       arith,
       l .inv .2 .toward-is (q .result) (q .ensures .low),
       s .pre .1 .1 .1 .1 .1 .room (q .result) (q .ensures .low),
@@ -61,20 +60,18 @@ reach-spec =
     let t = c .before .before .before .before .before .before .before .before .before .loop-test .taken in
     let k = c .before .before .before .before .before .before .cluster .ensures in
     let q = c .before .before .before .before .part-at .ensures in
-    let o = l .inv .1 in
-    (
+    let o = l .inv .1 in (
       refl,
       rw (c .before .before .before .before .before .before .before .wide2 .ensures) (walk-next (p .1 .1 .1 .0) _ _ o t),
       rw (c .before .before .before .before .before .before .before .wide2 .ensures, c .before .before .before .least .ensures, c .before .before .most .ensures)
-      (reach-turn _ _ _ _ _ _ (p .1 .1 .1 .0) _ _ (l .j) _ _ _ o t (l .inv .2) _ _ (leaves-yes _ _ _ _ (l .j) (o .at t) k (c .before .before .before .before .before .if1 .taken))
-        (part-is _ _ _ (l .j) (p .0 .into) (joined-ends (p .0) t) k (q .is)) (q .low) (c .entry .ensures .is)),
+          (reach-turn _ _ _ _ _ _ (p .1 .1 .1 .0) _ _ (l .j) _ _ _ o t (l .inv .2) _ _ (leaves-yes _ _ _ _ (l .j) (o .at t) k (c .before .before .before .before .before .if1 .taken))
+          (part-is _ _ _ (l .j) (p .0 .into) (joined-ends (p .0) t) k (q .is)) (q .low) (c .entry .ensures .is)),
     ))
     (λ c. omega (arith, c .before .before .wide2 .ensures, walk-less (c .before .before .before .before .before .before .before .before .before .before .before .before .pre .1 .1 .1 .0) (c .before .before .before .before .before .loop .j) (c .before .before .before .before .loop-test .taken)))
     (λ c. let p = c .before .before .before .before .before .before .before .before .before .before .before .before .pre in
     let l = c .before .before .before .before .before .loop in
     let t = c .before .before .before .before .loop-test .taken in
-    let o = l .inv .1 in
-    (
+    let o = l .inv .1 in (
       refl,
       rw (c .before .before .wide2 .ensures) (walk-next (p .1 .1 .1 .0) _ _ o t),
       rw (c .before .before .wide2 .ensures) (reach-pass _ _ _ _ _ _ (p .1 .1 .1 .0) _ _ (l .j) _ _ _ o t (l .inv .2) (leaves-no _ _ _ _ (l .j) (o .at t) (c .before .cluster .ensures) (c .if1 .left))),

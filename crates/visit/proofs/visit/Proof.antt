@@ -1,6 +1,6 @@
 use Rattle.visit.proofs.Laws.{room-zeros, room-next, both-ways}
 use Rattle.graph.proofs.Links.{joins-back}
-use mathlib.Core.Path.{_≡_, sym, _∙_}
+use mathlib.Core.Path.{sym, _∙_}
 use native.Mathlib.Omega.{arith}
 use Rattle.visit.proofs.visit.Statement.{statement}
 use Rattle.visit.proofs.visit.Tie as tie

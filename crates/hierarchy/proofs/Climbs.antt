@@ -1,0 +1,121 @@
+-- One round on the ladder.
+use Prim.Native.Nat.{ℕ, _+_, _-_, _*_, _≤_, _<_}
+use mathlib.Core.Path.{_≡_, sym, ap, _∙_}
+use mathlib.Core.Bool.{true, false}
+use mathlib.Core.List.{List}
+use native.Mathlib.Nat.{suc-mul, mul-le-mul-right}
+use native.Mathlib.Omega.{arith}
+use lib.Dec.{ltb}
+use lib.ListN.{length, take, drop, length-take}
+use borrow.Author.Tests.{lt-ltb, le-ltb}
+use borrow.Rule.Slice.PartMut.{putMid}
+use Rattle.folds.specs.Fold.{part}
+use Rattle.folds.proofs.Sums.{countTo-le}
+use Rattle.folds.proofs.Slices.{put-part, length-part, take-over, length-over}
+use Rattle.graph.specs.Graph.{Graph, vertices, seen, RowOf}
+use Rattle.graph.specs.Rows.{clusters}
+use Rattle.graph.proofs.Edges.{row-inside}
+use Rattle.contraction.specs.Rules.{Keeps}
+use Rattle.contraction.specs.Next.{mateOf, mateIn, nextRow, lowestOf, leads, Mated, Short, Joined}
+use Rattle.contraction.proofs.Mates.{mate-back, keeps-disjoint}
+use Rattle.contraction.proofs.Next.{length-next, next-clusters}
+use Rattle.contraction.proofs.Arrays.{mates-mated, joined-mates}
+use Rattle.matching.specs.Choice.{roundOf}
+use Rattle.matching.specs.Held.{Ready, Matched}
+use Rattle.matching.proofs.Choices.{round-keeps}
+use Rattle.hierarchy.specs.Climb.{large, poor, kept}
+use Rattle.hierarchy.specs.Built.{Round, rowAt, Climbed}
+
+-- a round's mates, and the row they give
+module _ {G : Graph} {row : List ℕ} {g : ℕ} (bound : ℕ) (R : Ready G row g) where
+  row-own : RowOf G row (clusters row)
+  row-own = rw (R .count) at (R .row-of)
+
+  keeps : Keeps (seen G row) (clusters row) (roundOf G bound row)
+  keeps = round-keeps G bound row (R .proper .formed) row-own
+
+  small : clusters row ≤ 512
+  small = rw (R .count) at (R .small)
+
+  pub tried-mated : {mates : List ℕ} {r : ℕ} → Matched G bound row mates r → Mated mates
+  tried-mated M = rw (M .mates-are) (mates-mated (row-inside (R .proper .formed) row-own) small keeps)
+
+  pub ready-short : Short row
+  ready-short = record { few = omega (arith, R .row-of .whole, R .proper .few); low = λ v l. omega (arith, R .row-of .below v (omega (arith, R .row-of .whole)), R .small) }
+
+  pub tried-round : {mates out out′ : List ℕ} {r c : ℕ} → Matched G bound row mates r → Joined row (mateIn mates) out out′ c → Round G bound row out out′ r c
+  tried-round {mates} {out} {out′} {r} {c} M J =
+      let J′ = joined-mates (row-inside (R .proper .formed) row-own) small keeps (rw (M .mates-are) at J) in
+      record { pairs-are = M .counts; few = M .few; left = J′ .count-is; row-is = J′ .row-is }
+
+  pub next-few : clusters (nextRow row (roundOf G bound row)) ≤ length row
+  next-few = rw (next-clusters row (mateOf (roundOf G bound row)) (mate-back (roundOf G bound row) (keeps-disjoint keeps))) (countTo-le (length row) (leads (lowestOf row (mateOf (roundOf G bound row)))))
+
+pub length-taken : (l : List ℕ) (a n : ℕ) → a + n ≤ length l → length (take n (drop a l)) ≡ n
+unfolding part
+length-taken l a n h = length-part l a n h
+
+pub taken-low : (l : List ℕ) (a n : ℕ) → n ≤ 512 → length (take (a + n - a) l) ≤ 512
+taken-low l a n h = let e : a + n - a ≡ n = omega arith in rw e (simp length-take (omega arith))
+
+-- places of the rows
+pub rows-in : (r n m : ℕ) → r < 8 → 9 * n ≤ m → r * n + n + n ≤ m
+rows-in r n m l h = omega (arith, suc-mul r n, mul-le-mul-right n l)
+
+pub place-low : (r n : ℕ) → r < 8 → n ≤ 512 → r * n ≤ 4096
+place-low r n l h = omega (arith, suc-mul r n, mul-le-mul-right n l)
+
+module _ (G : Graph) (k bound r g : ℕ) (ladder : List ℕ) (R : Ready G (rowAt G ladder r) g) where
+  abbrev n : ℕ
+  n = vertices G
+
+  abbrev row : List ℕ
+  row = rowAt G ladder r
+
+  pub climbed-small : g ≤ 2 * k → Climbed G k bound r ladder ladder 0
+  unfolding kept large
+  climbed-small l =
+      let t : ltb (2 * k) (clusters row) ≡ false = le-ltb (2 * k) (clusters row) (omega (arith, R .count)) in
+      record { ladder-is = rw t; answer-is = rw t }
+
+  -- the row that the code hands on
+  pub row-handed : take (r * n + n - r * n) (drop (r * n) ladder) ≡ row
+  unfolding part
+  row-handed = let e : r * n + n - r * n ≡ n = omega arith in rw e
+
+  module _ (lr : r < 8) (lk : k ≤ 16) (room : 9 * n ≤ length ladder) (l : 2 * k < g) {out₀ out : List ℕ} {pairs left : ℕ}
+      (T : Round G bound (take (r * n + n - r * n) (drop (r * n) ladder)) out₀ out pairs left) where
+    abbrev next : List ℕ
+    next = nextRow row (roundOf G bound row)
+
+    T′ : Round G bound row out₀ out pairs left
+    T′ = rw row-handed at T
+
+    is-large : large k row ≡ true
+    unfolding large
+    is-large = lt-ltb (2 * k) (clusters row) (omega (arith, R .count))
+
+    pub climbed-poor : 10 * pairs < g → Climbed G k bound r ladder ladder 0
+    unfolding kept poor
+    climbed-poor h =
+        let t : ltb (10 * length (roundOf G bound row)) (clusters row) ≡ true = lt-ltb (10 * length (roundOf G bound row)) (clusters row) (omega (arith, R .count, T′ .pairs-are)) in
+        record { ladder-is = rw (is-large, t); answer-is = rw (is-large, t) }
+
+    length-row : length next ≡ n
+    length-row = length-next row (mateOf (roundOf G bound row)) ∙ R .row-of .whole
+
+    pub handed-tall : length out₀ ≡ 512 → length out ≡ 512
+    handed-tall h = ap length (T′ .row-is) ∙ length-over next out₀ (omega (arith, length-row, R .proper .few)) ∙ h
+
+    pub climbed-kept : g ≤ 10 * pairs → {q : List ℕ} → q ≡ take (length (take (r * n + n + n - (r * n + n)) (drop (r * n + n) ladder))) out
+        → Climbed G k bound r ladder (putMid (r * n + n) (r * n + n + n - (r * n + n)) ladder q) left
+    unfolding kept poor
+    climbed-kept h {q} eq =
+        let t : ltb (10 * length (roundOf G bound row)) (clusters row) ≡ false = le-ltb (10 * length (roundOf G bound row)) (clusters row) (omega (arith, R .count, T′ .pairs-are)) in
+        let e : r * n + n + n - (r * n + n) ≡ n = omega arith in
+        let le : length (take (r * n + n + n - (r * n + n)) (drop (r * n + n) ladder)) ≡ n = rw e (length-taken ladder (r * n + n) n (rows-in r n (length ladder) lr room)) in
+        let qi : q ≡ next = eq ∙ ap (λ (z : ℕ). take z out) le ∙ ap (take n) (T′ .row-is) ∙ take-over next out₀ n length-row in
+        record {
+          ladder-is = put-part ladder next q (r * n + n) (r * n + n + n - (r * n + n)) qi (e ∙ sym length-row) ∙ rw (is-large, t);
+          answer-is = T′ .left ∙ rw (is-large, t);
+        }

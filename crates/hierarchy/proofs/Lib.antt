@@ -1,0 +1,6 @@
+pub mod Flat
+pub mod Tried
+pub mod Own
+pub mod Climbs
+pub mod Rising
+pub mod Cases

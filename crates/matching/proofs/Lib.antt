@@ -1,0 +1,5 @@
+pub mod Choices
+pub mod Fits
+pub mod Visits
+pub mod Holding
+pub mod Steps

@@ -1,0 +1,200 @@
+-- The returns of a visit, and the loop over the order.
+use Prim.Native.Nat.{ℕ, zero, suc, _+_, _*_, _≤_, _<_}
+use mathlib.Core.Path.{_≡_, refl, sym, ap, _∙_}
+use mathlib.Core.Bool.{Bool, true, false}
+use mathlib.Core.Logic.{_⊎_, inl, inr}
+use mathlib.Core.List.{List, [], _∷_}
+use native.Mathlib.Omega.{arith}
+use lib.ListN.{length, getD, set, take, length-set, List·getD-append}
+use lib.Seq.{take-all, length-take-le}
+use Rattle.folds.specs.Fold.{anyTo, listTo, over, zeros}
+use Rattle.folds.proofs.Cases.{either}
+use Rattle.folds.proofs.Lists.{listed, length-listTo, length-zeros}
+use Rattle.folds.proofs.Slices.{length-over}
+use Rattle.graph.specs.Graph.{Graph, graphOf, via, Arcs, arcs, seen, Edge, Inside}
+use Rattle.graph.specs.Links.{Linked, Joins}
+use Rattle.graph.specs.Rows.{clusters}
+use Rattle.graph.proofs.Edges.{row-inside}
+use Rattle.topology.specs.Level.{levelsOf, level}
+use Rattle.topology.specs.Order.{orderOf}
+use Rattle.topology.proofs.Orders.{order-all, order-below}
+use Rattle.levels.specs.Sweep.{Layered, Ordered}
+use Rattle.levels.proofs.Sweeps.{over-level}
+use Rattle.contraction.specs.Rules.{pair, Round, Keeps}
+use Rattle.contraction.specs.Next.{mateOf}
+use Rattle.offers.specs.State.{Weighed, haltsAt, offerOf, Widest}
+use Rattle.matching.specs.Choice.{visit, visits, roundOf}
+use Rattle.matching.specs.Held.{Ready, Holds, Tall, Context, Chosen, Paired, Visited, Stepped, Matched}
+use Rattle.matching.proofs.Choices.{Kept, none-kept, visit-kept}
+use Rattle.matching.proofs.Visits.{visit-mated, visit-stopped, visit-keeps, visit-takes}
+use Rattle.matching.proofs.Holding.{holds-none, holds-pair, visits-more, weighed-cost}
+
+pub widest-low : {A : Arcs} {f : ℕ → ℕ} {u j width to : ℕ} → Widest A f u j width to → (width ≡ 0 → ⊥) → to < 512
+widest-low W n = either (W .hit) (λ e. absurd (n e)) (λ h. h .1)
+
+module _ (row starts ends widths levels costs mates tos blocked sums : List ℕ) (bound u : ℕ) (lu : u < 512) (T : Tall mates tos blocked) (z : sums ≡ zeros 512) where
+  abbrev A : Arcs
+  A = arcs row starts ends
+
+  -- the visit takes none
+  abbrev Stays : Type 0
+  Stays = (vs : List ℕ) (g : ℕ) → Context (graphOf vs starts ends widths) row g levels costs → (ps : Round) → Keeps A g ps → Holds A levels ps mates tos blocked
+      → visit (graphOf vs starts ends widths) row (levelsOf A g) g bound ps u ≡ ps
+
+  stays : Stays → Stepped row starts ends widths levels costs bound u mates tos blocked mates tos blocked sums 0
+  stays h =
+      record {
+        tall = T;
+        clean = z;
+        few = omega arith;
+        is = λ vs g C ps K H. let e = h vs g C ps K H in record { holds = rw e H; counts = rw e (omega arith) };
+      }
+
+  pub stepped-mated : {x : ℕ} → x ≡ getD mates u 0 → (x ≡ u → ⊥) → Stepped row starts ends widths levels costs bound u mates tos blocked mates tos blocked sums 0
+  stepped-mated e n = stays (λ vs g C ps K H. visit-mated (graphOf vs starts ends widths) row g bound levels costs mates tos blocked C ps K H u lu e n)
+
+  pub stepped-stopped : {r : Bool} → r ≡ anyTo (length starts) (haltsAt A levels tos u) → r ≡ true → Stepped row starts ends widths levels costs bound u mates tos blocked mates tos blocked sums 0
+  stepped-stopped e t = stays (λ vs g C ps K H. visit-stopped (graphOf vs starts ends widths) row g bound levels costs mates tos blocked C ps K H u lu e t)
+
+  module _ {x : ℕ} (ex : x ≡ getD mates u 0) (single : x ≡ u) {r : Bool} (er : r ≡ anyTo (length starts) (haltsAt A levels tos u)) (goes : r ≡ false)
+      {width to : ℕ} (W : Widest A (offerOf A widths levels mates blocked costs bound u) u (length starts) width to) where
+    pub stepped-none : width ≡ 0 → Stepped row starts ends widths levels costs bound u mates tos blocked mates tos blocked sums 0
+    stepped-none e = stays (λ vs g C ps K H. visit-keeps (graphOf vs starts ends widths) row g bound levels costs mates tos blocked C ps K H u lu ex single er goes W e)
+
+    pub stepped-pair : {mates′ tos′ blocked′ : List ℕ} → (width ≡ 0 → ⊥) → Paired A levels u to mates tos blocked mates′ tos′ blocked′
+        → Stepped row starts ends widths levels costs bound u mates tos blocked mates′ tos′ blocked′ sums 1
+    stepped-pair {blocked′ = blocked′} n P =
+        record {
+          tall = rw (P .mates-are, P .tos-are) tall;
+          clean = z;
+          few = omega arith;
+          is = λ vs g C ps K H.
+            let (e, t) = visit-takes (graphOf vs starts ends widths) row g bound levels costs mates tos blocked C ps K H u lu ex single er goes W n in
+            record {
+              holds = rw (e, P .mates-are, P .tos-are) (holds-pair A levels mates tos blocked _ ps u to T H lu (widest-low W n) t (P .blocks));
+              counts = rw e (omega arith);
+            };
+        }
+      where
+        tall : Tall (set (set mates u to) to u) (set tos to 1) blocked′
+        tall = record { mates-tall = length-set (set mates u to) to u ∙ length-set mates u to ∙ T .mates-tall; tos-tall = length-set tos to 1 ∙ T .tos-tall; blocked-tall = P .blocks .tall }
+
+-- what a row that is ready gives to the loops
+module _ {costs row starts ends widths : List ℕ} {g : ℕ} (R : Ready (graphOf costs starts ends widths) row g) where
+  pub ready-joins : Joins row starts ends
+  ready-joins =
+      record {
+        out = record {
+          few = R .proper .many;
+          rows = omega (arith, R .row-of .whole, R .proper .few);
+          in-row = λ j l. rw (R .row-of .whole) (R .proper .formed .start-in j l);
+          low = low;
+        };
+        into = record {
+          few = omega (arith, R .proper .many, R .proper .formed .same-ends);
+          rows = omega (arith, R .row-of .whole, R .proper .few);
+          in-row = λ j l. rw (R .row-of .whole) (R .proper .formed .end-in j (omega (arith, R .proper .formed .same-ends)));
+          low = low;
+        };
+        same = R .proper .formed .same-ends;
+      }
+    where
+      low : (v : ℕ) → v < length row → getD row v 0 < 512
+      low v l = omega (arith, R .row-of .below v (omega (arith, R .row-of .whole)), R .small)
+
+  pub ready-layered : Layered (arcs row starts ends) g
+  ready-layered = record { inside = row-inside (R .proper .formed) (R .row-of); acyclic = R .acyclic; small = R .small }
+
+round-at : (G : Graph) (bound : ℕ) (row : List ℕ) (g : ℕ) → g ≡ clusters row → roundOf G bound row ≡ visits G row (levelsOf (seen G row) g) g bound [] (orderOf (seen G row) g)
+unfolding roundOf
+round-at G bound row g e = rw e
+
+-- the first i clusters of the order are visited
+pub record Rounding (G : Graph) (row levels : List ℕ) (g bound i : ℕ) (mates tos blocked sums : List ℕ) (count : ℕ) : Type 0 where
+  pub tall : Tall mates tos blocked
+  pub clean : sums ≡ zeros 512
+  pub few : count ≤ i
+  pub keeps : Kept G row g bound (visits G row (levelsOf (seen G row) g) g bound [] (take i (orderOf (seen G row) g)))
+  pub holds : Holds (seen G row) levels (visits G row (levelsOf (seen G row) g) g bound [] (take i (orderOf (seen G row) g))) mates tos blocked
+  pub counts : count ≡ length (visits G row (levelsOf (seen G row) g) g bound [] (take i (orderOf (seen G row) g)))
+
+module _ (G : Graph) (row levels costs : List ℕ) (g bound : ℕ) (C : Context G row g levels costs) where
+  inside : Inside (seen G row) g
+  inside = row-inside (C .ready .proper .formed) (C .ready .row-of)
+
+  all : length (orderOf (seen G row) g) ≡ g
+  all = order-all (seen G row) g inside (C .ready .small) (C .ready .acyclic)
+
+  pub rounding-none : {mates : List ℕ} → mates ≡ listTo 512 (λ c. c) → Rounding G row levels g bound 0 mates (zeros 512) (zeros 512) (zeros 512) 0
+  unfolding visits
+  rounding-none {mates} e =
+      rw e
+      (record {
+        tall = record { mates-tall = length-listTo 512 (λ c. c); tos-tall = length-zeros 512; blocked-tall = length-zeros 512 };
+        clean = refl;
+        few = omega arith;
+        keeps = none-kept G row g bound inside;
+        holds = holds-none (seen G row) levels;
+        counts = refl;
+      })
+
+  pub order-low : {i u : ℕ} {order : List ℕ} → Ordered (seen G row) g order → i < g → u ≡ getD order i 0 → u < 512
+  order-low {i} O l e = let h = order-below (seen G row) g inside (C .ready .small) i (omega (arith, all)) in omega (arith, O .is i l, C .ready .small)
+
+  pub rounding-turn : {i u r count : ℕ} {order mates tos blocked sums mates′ tos′ blocked′ sums′ : List ℕ} → Ordered (seen G row) g order → i < g → u ≡ getD order i 0
+      → Rounding G row levels g bound i mates tos blocked sums count
+      → Stepped row (G .starts) (G .ends) (G .widths) levels costs bound u mates tos blocked mates′ tos′ blocked′ sums′ r
+      → Rounding G row levels g bound (i + 1) mates′ tos′ blocked′ sums′ (count + r)
+  rounding-turn {i} {u} {r} {count} O l e N S =
+      let L = levelsOf (seen G row) g in
+      let ps = visits G row L g bound [] (take i (orderOf (seen G row) g)) in
+      let q : visits G row L g bound [] (take (i + 1) (orderOf (seen G row) g)) ≡ visit G row L g bound ps u =
+        visits-more G row L g bound [] (orderOf (seen G row) g) i (omega (arith, all)) ∙ ap (visit G row L g bound ps) (sym (O .is i l) ∙ sym e) in
+      let W = S .is (G .costs) g C ps (N .keeps .0) (N .holds) in
+      record {
+        tall = S .tall;
+        clean = S .clean;
+        few = omega (arith, N .few, S .few);
+        keeps = rw q (visit-kept G row g bound inside ps u (N .keeps));
+        holds = rw q (W .holds);
+        counts = rw q (omega (arith, N .counts, W .counts));
+      }
+
+  pub rounding-end : {i count : ℕ} {mates tos blocked sums : List ℕ} → i ≤ g → g ≤ i → Rounding G row levels g bound i mates tos blocked sums count → Matched G bound row mates count
+  rounding-end {i} {count} {mates} l h N =
+      let full : take i (orderOf (seen G row) g) ≡ orderOf (seen G row) g = take-all i (orderOf (seen G row) g) (omega (arith, all)) in
+      let H = rw full at (N .holds) in
+      let e = sym (round-at G bound row g (C .ready .count)) in
+      record {
+        counts = (rw full at (N .counts)) ∙ ap length e;
+        few = omega (arith, N .few, C .ready .small);
+        mates-are = listed mates 512 (mateOf (visits G row (levelsOf (seen G row) g) g bound [] (orderOf (seen G row) g))) (N .tall .mates-tall) (H .mates-are) ∙ ap (λ (ps : Round). listTo 512 (mateOf ps)) e;
+      }
+
+-- the arrays that the round has made
+module _ {costs row starts ends widths : List ℕ} {g : ℕ} (R : Ready (graphOf costs starts ends widths) row g) where
+  pub round-context : {levels weights : List ℕ} → levels ≡ over (levelsOf (arcs row starts ends) g) (zeros 512) → Weighed costs row (length row) weights → Context (graphOf costs starts ends widths) row g levels weights
+  round-context e W =
+      record {
+        ready = R;
+        levels-are = λ v. ap (λ (l : List ℕ). getD l v 0) e ∙ over-level (arcs row starts ends) g v;
+        costs-are = weighed-cost (sym (R .row-of .whole)) W;
+      }
+
+  pub weights-low : {weights : List ℕ} → Weighed costs row (length row) weights → (c : ℕ) → getD weights c 0 ≤ 33553920
+  weights-low W c = omega (arith, W .low c, R .row-of .whole, R .proper .few)
+
+  pub ready-weigh : ((length costs ≡ length row) × (length row ≤ 512)) × ((v : ℕ) → v < length row → getD row v 0 < 512)
+  ready-weigh = ((sym (R .row-of .whole), omega (arith, R .row-of .whole, R .proper .few)), ready-joins R .out .low)
+
+  -- the order, as the callee leaves it in the front of an array
+  pub round-ordered : {order : List ℕ} → order ≡ over (orderOf (arcs row starts ends) g) (zeros 512) → Ordered (arcs row starts ends) g order
+  unfolding over
+  round-ordered {order} e =
+      record {
+        tall = ap length e ∙ length-over (orderOf (arcs row starts ends) g) (zeros 512) (rw (full, length-zeros 512) (R .small)) ∙ length-zeros 512;
+        is = λ i l. ap (λ (o : List ℕ). getD o i 0) e ∙ List·getD-append (orderOf (arcs row starts ends) g) _ 0 i (rw full l);
+      }
+    where
+      full : length (orderOf (arcs row starts ends) g) ≡ g
+      full = order-all (arcs row starts ends) g (row-inside (R .proper .formed) (R .row-of)) (R .small) (R .acyclic)

@@ -1,0 +1,37 @@
+use Rattle.graph.specs.Graph.{via, arcs}
+use Rattle.graph.proofs.Links.{On, walk-on, walk-next, walk-less, on-end, joined-ends}
+use Rattle.offers.specs.State.{Widest, offerIn}
+use Rattle.offers.proofs.Loops.{widest-none, widest-turn}
+use Prim.Native.Nat.{ℕ, _≤_, _<_, _-_, _+_, _*_}
+use mathlib.Core.Path.{_≡_, refl, sym, ap, _∙_}
+use native.Mathlib.Omega.{arith}
+use lib.ListN.{length, getD, length-set}
+use borrow.Author.Needs.{needs}
+use Rattle.offers.proofs.choose.Statement.{statement}
+use Rattle.offers.proofs.choose.Tie as tie
+
+abbrev Inv-loop : tie.InvT-loop
+Inv-loop row starts ends head next levels mates blocked costs bound u sums total m best₀ j₀ best j = (m ≡ length starts) × On (via row starts) m u j × Widest (arcs row starts ends) (λ (b : ℕ). offerIn levels mates blocked costs bound u b (getD sums b 0) total) u j (best .width) (best .to)
+
+abbrev μ-loop : tie.MeasureT-loop
+μ-loop row starts ends head next levels mates blocked costs bound u sums total m best₀ j₀ best j = m - j
+
+pub choose-spec : {M : Type 1} → statement M
+choose-spec =
+    tie.close
+    (tie.spec Inv-loop μ-loop
+    (λ c. search needs)
+    (λ c. search needs)
+    (λ c κs. search needs)
+    (λ c. let p = c .before .before .before .before .before .pre in (refl, rw (c .wide .ensures) (walk-on (p .1 .0) _ (p .1 .1 .0)), rw (c .wide .ensures) (widest-none _ _ _ (p .1 .0) (p .1 .1 .0) 512)))
+    (λ c κs. search needs)
+    (λ c. search needs)
+    (λ c. search needs)
+    (λ c κs. let p = c .before .before .before .before .before .before .before .before .before .pre in ((p .1 .1 .0, c .before .cluster .ensures .low), p .1 .1 .1))
+    (λ c κs. search needs)
+    (λ c. search needs)
+    (λ c. search needs)
+    (λ c κs. search needs)
+    (λ c. omega (arith, c .wide2 .ensures, walk-less (c .before .before .before .before .before .before .before .before .before .before .before .before .before .pre .1 .0) (c .before .before .before .before .before .before .before .loop .j) (c .before .before .before .before .before .before .loop-test .taken)))
+    (λ c. let p = c .before .before .before .before .before .before .before .before .before .before .before .before .before .pre in let l = c .before .before .before .before .before .before .before .loop in let t = c .before .before .before .before .before .before .loop-test .taken in let k = c .before .before .before .before .before .cluster .ensures in (refl, rw (c .wide2 .ensures) (walk-next (p .1 .0) _ _ (l .inv .1) t), rw (c .wide2 .ensures) (widest-turn _ _ _ (p .1 .0) (l .inv .1) t (k .is) (k .low) (c .before .before .before .offer .ensures) (c .before .before .better .ensures) (l .inv .2))))
+    (λ c. let l = c .before .loop in rw (on-end (l .inv .1) (c .loop-test .left)) at (l .inv .2)))

@@ -1,0 +1,211 @@
+// Loops over the edges of a cluster: the widths that leave it, what its successors offer it, what a pair that begins at it blocks.
+ghost use mathlib.Core.Path.{_≡_};
+ghost use mathlib.Core.Bool.{_||_};
+ghost use lib.Dec.{eqb};
+ghost use Prim.Native.Nat.{ℕ, _+_, _*_, _<_, _≤_};
+ghost use lib.ListN.{length, getD};
+ghost use Rattle.folds.specs.Fold.{pick, anyTo, zeros};
+ghost use Rattle.graph.specs.Graph.{via, arcs};
+ghost use Rattle.graph.specs.Links.{Linked, Joins};
+ghost use Rattle.offers.specs.State.{Weighed, Widths, Sparse, nextIn, halts, haltsAt, offerIn, Widest, Better, blockedOf, Blocking};
+
+// The cost of each cluster.
+pub fn weigh(costs: &[u16], row: &[u16], sums: &mut [u32; 512])
+    requires { ⌜ (length (now costs) ≡ length (now row)) × (length (now row) ≤ 512) ⌝ }
+    requires { ⌜ ((v : ℕ) → v < length (now row) → getD (now row) v 0 < 512) ⌝ }
+    ensures { λ _. ⌜ Weighed (now (costs .entry)) (now (row .entry)) (length (now (row .entry))) (now (sums .exit)) ⌝ }
+{
+    *sums = [0; 512];
+    let mut v: usize = 0;
+    while v < row.len() {
+        let c = folds::at16(row, v);
+        let x = folds::at16(costs, v);
+        sums[c] = sums[c] + x as u32;
+        v += 1;
+    }
+}
+
+// Adds the width of each edge of u to the entry of the cluster it goes to. Answers their sum.
+pub fn add_widths(row: &[u16], starts: &[u16], ends: &[u16], widths: &[u16], head: &[u16; 512], next: &[u16; 1024], u: usize, sums: &mut [u32; 512]) -> u32
+    requires { ⌜ Joins (now row) (now starts) (now ends) ⌝ }
+    requires { ⌜ Linked (via (now row) (now starts)) (length (now starts)) (now head) (now next) ⌝ }
+    requires { ⌜ (u < 512) × (length (now widths) ≡ length (now starts)) ⌝ }
+    requires { ⌜ now sums ≡ zeros 512 ⌝ }
+    ensures { λ r. ⌜ Widths (arcs (now (row .entry)) (now (starts .entry)) (now (ends .entry))) (now (widths .entry)) u (length (now (starts .entry))) (now (sums .exit)) r ⌝ }
+{
+    let m = starts.len();
+    let mut total: u32 = 0;
+    let mut j = folds::wide(head[u]);
+    while j < m {
+        let b = graph::cluster(row, ends, j);
+        let w = graph::crossing(row, starts, ends, widths, j);
+        sums[b] = sums[b] + w;
+        total += w;
+        j = folds::wide(next[j]);
+    }
+    total
+}
+
+// Sets the entries that the edges of u go to back to 0.
+pub fn clear(row: &[u16], starts: &[u16], ends: &[u16], head: &[u16; 512], next: &[u16; 1024], u: usize, sums: &mut [u32; 512])
+    requires { ⌜ Joins (now row) (now starts) (now ends) ⌝ }
+    requires { ⌜ Linked (via (now row) (now starts)) (length (now starts)) (now head) (now next) ⌝ }
+    requires { ⌜ (u < 512) × Sparse (arcs (now row) (now starts) (now ends)) u 0 (now sums) ⌝ }
+    ensures { λ _. ⌜ now (sums .exit) ≡ zeros 512 ⌝ }
+{
+    let m = starts.len();
+    let mut j = folds::wide(head[u]);
+    while j < m {
+        let b = graph::cluster(row, ends, j);
+        sums[b] = 0;
+        j = folds::wide(next[j]);
+    }
+}
+
+// Whether v lies on the level after u's.
+fn is_next(levels: &[u16; 512], u: usize, v: usize) -> bool
+    requires { ⌜ (u < 512) × (v < 512) ⌝ }
+    ensures { λ r. ⌜ r ≡ nextIn (now (levels .entry)) u v ⌝ }
+{
+    let x = levels[u];
+    let y = levels[v];
+    if y <= x {
+        return false;
+    }
+    y - x == 1
+}
+
+// Whether edge j of u goes to the end of a pair, on the next level.
+fn halts_at(row: &[u16], starts: &[u16], ends: &[u16], levels: &[u16; 512], tos: &[u8; 512], u: usize, j: usize) -> bool
+    requires { ⌜ Joins (now row) (now starts) (now ends) ⌝ }
+    requires { ⌜ (u < 512) × (j < length (now starts)) ⌝ }
+    ensures { λ r. ⌜ r ≡ halts (arcs (now (row .entry)) (now (starts .entry)) (now (ends .entry))) (now (levels .entry)) (now (tos .entry)) u j ⌝ }
+{
+    let b = graph::cluster(row, ends, j);
+    if b == u {
+        return false;
+    }
+    if tos[b] == 0 {
+        return false;
+    }
+    is_next(levels, u, b)
+}
+
+// Whether some edge of u goes to the end of a pair, on the next level: then no pair may begin at u.
+pub fn stops(row: &[u16], starts: &[u16], ends: &[u16], head: &[u16; 512], next: &[u16; 1024], levels: &[u16; 512], tos: &[u8; 512], u: usize) -> bool
+    requires { ⌜ Joins (now row) (now starts) (now ends) ⌝ }
+    requires { ⌜ Linked (via (now row) (now starts)) (length (now starts)) (now head) (now next) ⌝ }
+    requires { ⌜ u < 512 ⌝ }
+    ensures { λ r. ⌜ r ≡ anyTo (length (now (starts .entry))) (haltsAt (arcs (now (row .entry)) (now (starts .entry)) (now (ends .entry))) (now (levels .entry)) (now (tos .entry)) u) ⌝ }
+{
+    let m = starts.len();
+    let mut j = folds::wide(head[u]);
+    while j < m {
+        if halts_at(row, starts, ends, levels, tos, u, j) {
+            return true;
+        }
+        j = folds::wide(next[j]);
+    }
+    false
+}
+
+// Whether u and its successor b keep rule 1: b lies on the next level, or all that leaves u goes to b.
+fn is_near(levels: &[u16; 512], u: usize, b: usize, w: u32, total: u32) -> bool
+    requires { ⌜ (u < 512) × (b < 512) ⌝ }
+    ensures { λ r. ⌜ r ≡ (nextIn (now (levels .entry)) u b || eqb w total) ⌝ }
+{
+    if is_next(levels, u, b) {
+        return true;
+    }
+    w == total
+}
+
+// The width w that b offers to u, 0 where u may not take b.
+fn offer(levels: &[u16; 512], mates: &[u16; 512], blocked: &[u8; 512], costs: &[u32; 512], bound: u32, u: usize, b: usize, w: u32, total: u32) -> u32
+    requires { ⌜ (u < 512) × (b < 512) ⌝ }
+    requires { ⌜ ((c : ℕ) → getD (now costs) c 0 ≤ 33553920) ⌝ }
+    ensures { λ r. ⌜ r ≡ offerIn (now (levels .entry)) (now (mates .entry)) (now (blocked .entry)) (now (costs .entry)) bound u b w total ⌝ }
+{
+    if folds::wide(mates[b]) != b {
+        return 0;
+    }
+    if blocked[b] != 0 {
+        return 0;
+    }
+    if costs[u] + costs[b] > bound {
+        return 0;
+    }
+    if is_near(levels, u, b, w, total) {
+        return w;
+    }
+    0
+}
+
+// A width, and the cluster that offers it.
+pub struct Best {
+    pub width: u32,
+    pub to: usize,
+}
+
+// The wider of two offers, or of two as wide that of the lower cluster.
+fn better(best: Best, w: u32, b: usize) -> Best
+    ensures { λ r. ⌜ Better (best .width) (best .to) w b (r .width) (r .to) ⌝ }
+{
+    if best.width < w {
+        return Best { width: w, to: b };
+    }
+    if w == best.width {
+        if b < best.to {
+            return Best { width: w, to: b };
+        }
+    }
+    best
+}
+
+// The widest offer to u, of the lowest cluster that makes it.
+pub fn choose(row: &[u16], starts: &[u16], ends: &[u16], head: &[u16; 512], next: &[u16; 1024], levels: &[u16; 512], mates: &[u16; 512], blocked: &[u8; 512], costs: &[u32; 512], bound: u32, u: usize, sums: &[u32; 512], total: u32) -> Best
+    requires { ⌜ Joins (now row) (now starts) (now ends) ⌝ }
+    requires { ⌜ Linked (via (now row) (now starts)) (length (now starts)) (now head) (now next) ⌝ }
+    requires { ⌜ (u < 512) × ((c : ℕ) → getD (now costs) c 0 ≤ 33553920) ⌝ }
+    ensures { λ r. ⌜ Widest (arcs (now (row .entry)) (now (starts .entry)) (now (ends .entry))) (λ b. offerIn (now (levels .entry)) (now (mates .entry)) (now (blocked .entry)) (now (costs .entry)) bound u b (getD (now (sums .entry)) b 0) total) u (length (now (starts .entry))) (r .width) (r .to) ⌝ }
+{
+    let m = starts.len();
+    let mut best = Best { width: 0, to: 512 };
+    let mut j = folds::wide(head[u]);
+    while j < m {
+        let b = graph::cluster(row, ends, j);
+        let w = offer(levels, mates, blocked, costs, bound, u, b, sums[b], total);
+        best = better(best, w, b);
+        j = folds::wide(next[j]);
+    }
+    best
+}
+
+// Blocks b where it lies on the level after u's.
+fn mark_next(levels: &[u16; 512], u: usize, b: usize, blocked: &mut [u8; 512])
+    requires { ⌜ (u < 512) × (b < 512) ⌝ }
+    ensures { λ _. ⌜ now (blocked .exit) ≡ blockedOf (now (levels .entry)) u b (now (blocked .entry)) ⌝ }
+{
+    if b == u {
+        return;
+    }
+    if is_next(levels, u, b) {
+        blocked[b] = 1;
+    }
+}
+
+// Blocks what the edges of u go to on the level after u's.
+pub fn block(row: &[u16], starts: &[u16], ends: &[u16], head: &[u16; 512], next: &[u16; 1024], levels: &[u16; 512], u: usize, blocked: &mut [u8; 512])
+    requires { ⌜ Joins (now row) (now starts) (now ends) ⌝ }
+    requires { ⌜ Linked (via (now row) (now starts)) (length (now starts)) (now head) (now next) ⌝ }
+    requires { ⌜ (u < 512) × (length (now blocked) ≡ 512) ⌝ }
+    ensures { λ _. ⌜ Blocking (arcs (now (row .entry)) (now (starts .entry)) (now (ends .entry))) (now (levels .entry)) u (length (now (starts .entry))) (now (blocked .entry)) (now (blocked .exit)) ⌝ }
+{
+    let m = starts.len();
+    let mut j = folds::wide(head[u]);
+    while j < m {
+        let b = graph::cluster(row, ends, j);
+        mark_next(levels, u, b, blocked);
+        j = folds::wide(next[j]);
+    }
+}
