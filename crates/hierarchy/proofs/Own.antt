@@ -118,7 +118,7 @@ module _ (G : Graph) (k bound : ℕ) (F : Formed G) (ac : Acyclic (Edge (seen G 
         count = run-count G k bound R;
       })
 
-  hierarchy-ext : {rows rows′ : ℕ → List ℕ} {top : ℕ} → ((r : ℕ) → r ≤ top → rows r ≡ rows′ r) → Hierarchy G rows top → Hierarchy G rows′ top
+  pub hierarchy-ext : {rows rows′ : ℕ → List ℕ} {top : ℕ} → ((r : ℕ) → r ≤ top → rows r ≡ rows′ r) → Hierarchy G rows top → Hierarchy G rows′ top
   hierarchy-ext e H =
       record {
         bottom = sym (e 0 (omega arith)) ∙ H .bottom;

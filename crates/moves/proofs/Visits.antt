@@ -1,5 +1,5 @@
 -- A visit takes an allowed candidate of gain above 0, or none.
-use Prim.Native.Nat.{ℕ, zero, suc, _+_, _-_, _≤_, _<_}
+use Prim.Native.Nat.{ℕ, zero, suc, _+_, _-_, _≤_, _<_, min, max}
 use mathlib.Core.Path.{_≡_, refl, sym, _∙_}
 use mathlib.Core.Bool.{Bool, true, false, not, _&&_}
 use mathlib.Core.Logic.{_⊎_, inl, inr}
@@ -12,12 +12,12 @@ use lib.Signed.{ltZ}
 use lib.ListN.{getD}
 use borrow.Author.Tests.{eqb-true, eqb-false, eq-eqb, ne-eqb, ltb-true, ltb-false, leb-true, lt-ltb, le-ltb, le-leb}
 use Rattle.folds.specs.Fold.{pick, turns}
-use Rattle.folds.proofs.Cases.{by, either, both, both-i, not-yes, last-or}
+use Rattle.folds.proofs.Cases.{by, either, eq-or-ne, both, both-i, not-yes, last-or}
 use Rattle.folds.proofs.Searches.{any-i, any-e}
 use Rattle.graph.specs.Graph.{Graph, vertices, edges, via}
 use Rattle.graph.specs.Rows.{clusters}
 use Rattle.moves.specs.Move.{partSize, movedTo, partOf, leaves, pull, gainTo, Back, Onward, Candidate, Stays, Allowed}
-use Rattle.moves.specs.Pass.{lesser, greater, lowered, raised, lowestNext, aboveBefore, stays, allows, tried, goesBack, target}
+use Rattle.moves.specs.Pass.{lowered, raised, lowestNext, aboveBefore, stays, allows, tried, goesBack, target}
 use Rattle.moves.specs.Own.{Taken}
 use Rattle.moves.proofs.Signed.{less-gain, above-zero}
 
@@ -52,47 +52,37 @@ module _ (p : ℕ → Bool) (f : ℕ → ℕ) (better : ℕ → ℕ → ℕ) (s 
         b : ℕ
         b = choose p f better s m
 
-pick-one : (t : Bool) (a b : ℕ) → (pick t a b ≡ a) ⊎ (pick t a b ≡ b)
-pick-one true a b = inl refl
-pick-one false a b = inr refl
-
 pick-case : (a b c : Bool) (t u : ℕ) → (pick (a && (b && c)) t u ≡ u) ⊎ ((pick (a && (b && c)) t u ≡ t) × (a ≡ true) × (b ≡ true) × (c ≡ true))
 pick-case true true true t u = inr (refl, refl, refl, refl)
 pick-case true true false t u = inl refl
 pick-case true false c t u = inl refl
 pick-case false b c t u = inl refl
 
-swap : {A B : Type 0} → A ⊎ B → B ⊎ A
-swap (inl a) = inr a
-swap (inr b) = inl b
+min-one : (a b : ℕ) → (min a b ≡ a) ⊎ (min a b ≡ b)
+min-one a b = either (eq-or-ne (min a b) a) inl (λ n. inr (omega arith))
 
-lesser-le : (a b : ℕ) → (lesser a b ≤ a) × (lesser a b ≤ b)
-unfolding lesser
-lesser-le a b = by (ltb b a) (λ t. let l = ltb-true b a t in rw t (omega arith, omega arith)) (λ t. let l = ltb-false b a t in rw t (omega arith, omega arith))
-
-greater-ge : (a b : ℕ) → (a ≤ greater a b) × (b ≤ greater a b)
-unfolding greater
-greater-ge a b = by (ltb a b) (λ t. let l = ltb-true a b t in rw t (omega arith, omega arith)) (λ t. let l = ltb-false a b t in rw t (omega arith, omega arith))
+max-one : (a b : ℕ) → (max a b ≡ a) ⊎ (max a b ≡ b)
+max-one a b = either (eq-or-ne (max a b) a) inl (λ n. inr (omega arith))
 
 module _ (G : Graph) (row parts : List ℕ) (h : ℕ) where
   -- the highest part of the predecessors: that of one of them, and no lower than any
   above-is : (aboveBefore G row parts h ≡ 0) ⊎ ((j : ℕ) × (j < edges G) × (leaves row (G .ends) (G .starts) h j ≡ true) × (via parts (G .starts) j + 1 ≡ aboveBefore G row parts h))
-  unfolding aboveBefore raised greater
-  above-is = best-is (leaves row (G .ends) (G .starts) h) (λ j. via parts (G .starts) j + 1) greater 0 (λ a b. swap (pick-one (ltb a b) b a)) (edges G)
+  unfolding aboveBefore raised
+  above-is = best-is (leaves row (G .ends) (G .starts) h) (λ j. via parts (G .starts) j + 1) max 0 max-one (edges G)
 
   above-of : (j : ℕ) → j < edges G → leaves row (G .ends) (G .starts) h j ≡ true → via parts (G .starts) j + 1 ≤ aboveBefore G row parts h
   unfolding aboveBefore raised
   above-of =
-      best-of (leaves row (G .ends) (G .starts) h) (λ j. via parts (G .starts) j + 1) greater 0 (λ a b. b ≤ a) (λ a b c x y. omega arith) (λ a b. greater-ge a b .0) (λ a b. greater-ge a b .1) (edges G)
+      best-of (leaves row (G .ends) (G .starts) h) (λ j. via parts (G .starts) j + 1) max 0 (λ a b. b ≤ a) (λ a b c x y. omega arith) (λ a b. omega arith) (λ a b. omega arith) (edges G)
 
   -- the lowest part of the successors
   low-is : (k : ℕ) → (lowestNext G k row parts h ≡ k) ⊎ ((j : ℕ) × (j < edges G) × (leaves row (G .starts) (G .ends) h j ≡ true) × (via parts (G .ends) j ≡ lowestNext G k row parts h))
-  unfolding lowestNext lowered lesser
-  low-is k = best-is (leaves row (G .starts) (G .ends) h) (via parts (G .ends)) lesser k (λ a b. swap (pick-one (ltb b a) b a)) (edges G)
+  unfolding lowestNext lowered
+  low-is k = best-is (leaves row (G .starts) (G .ends) h) (via parts (G .ends)) min k min-one (edges G)
 
   low-of : (k j : ℕ) → j < edges G → leaves row (G .starts) (G .ends) h j ≡ true → lowestNext G k row parts h ≤ via parts (G .ends) j
   unfolding lowestNext lowered
-  low-of k = best-of (leaves row (G .starts) (G .ends) h) (via parts (G .ends)) lesser k (λ a b. a ≤ b) (λ a b c x y. omega arith) (λ a b. lesser-le a b .0) (λ a b. lesser-le a b .1) (edges G)
+  low-of k = best-of (leaves row (G .starts) (G .ends) h) (via parts (G .ends)) min k (λ a b. a ≤ b) (λ a b c x y. omega arith) (λ a b. omega arith) (λ a b. omega arith) (edges G)
 
   -- the back candidate, as the passes find it
   back-found : 0 < aboveBefore G row parts h → aboveBefore G row parts h ≤ partOf row parts h → Back G row parts h (aboveBefore G row parts h - 1)

@@ -1,5 +1,5 @@
 -- The passes: what a visit of a cluster does, a pass, passes until one moves nothing, and down the rungs (document 01, "Moves").
-use Prim.Native.Nat.{ℕ, zero, suc, _+_, _-_}
+use Prim.Native.Nat.{ℕ, zero, suc, _+_, _-_, min, max}
 use mathlib.Core.Bool.{Bool, not, _&&_}
 use mathlib.Core.List.{List}
 use lib.Dec.{eqb, ltb, leb}
@@ -10,18 +10,12 @@ use Rattle.graph.specs.Graph.{Graph, vertices, edges, via, cutOf}
 use Rattle.graph.specs.Rows.{clusters}
 use Rattle.moves.specs.Move.{partSize, movedTo, partOf, leaves, gainTo}
 
-unfoldable pub lesser : ℕ → ℕ → ℕ
-lesser a b = pick (ltb b a) b a
-
-unfoldable pub greater : ℕ → ℕ → ℕ
-greater a b = pick (ltb a b) b a
-
 -- s, and the part at the far end of edge j where that edge leaves h
 unfoldable pub lowered : List ℕ → List ℕ → List ℕ → List ℕ → ℕ → ℕ → ℕ → ℕ
-lowered row near far parts h j s = pick (leaves row near far h j) (lesser s (via parts far j)) s
+lowered row near far parts h j s = pick (leaves row near far h j) (min s (via parts far j)) s
 
 unfoldable pub raised : List ℕ → List ℕ → List ℕ → List ℕ → ℕ → ℕ → ℕ → ℕ
-raised row near far parts h j s = pick (leaves row near far h j) (greater s (via parts far j + 1)) s
+raised row near far parts h j s = pick (leaves row near far h j) (max s (via parts far j + 1)) s
 
 -- the lowest part among the successors of h, or k
 unfoldable pub lowestNext : Graph → ℕ → List ℕ → List ℕ → ℕ → ℕ

@@ -13,6 +13,7 @@ use Rattle.graph.specs.Graph.{Graph, vertices, edges, seen, crossing, cut, cutO
 use Rattle.graph.specs.Links.{Joins}
 use Rattle.graph.specs.Rows.{Hierarchy}
 use Rattle.graph.proofs.Edges.{crossing-le}
+use Rattle.counts.proofs.Totals.{proper-joins}
 use Rattle.moves.specs.Entries.{stateOf, Good}
 use Rattle.moves.specs.Pass.{Tally, tallyOf, measure, refinedOn, refinedBelow, refined}
 use Rattle.moves.proofs.Entries.{nested, good-down}
@@ -20,7 +21,6 @@ use Rattle.moves.proofs.Own.{refined-steps, steps-good, steps-fall}
 use Rattle.moves.proofs.Claims.{refined-good}
 use Rattle.refine.specs.Rung.{Ready}
 use Rattle.refine.specs.Down.{rowsIn, Descends, Refined}
-use Rattle.refine.proofs.Rung.{proper-joins}
 
 -- the rungs below r are still to come, and make R of the table
 pub record Descent (G : Graph) (k bound : ℕ) (rows : ℕ → List ℕ) (top : ℕ) (R : Tally) (r : ℕ) (parts : List ℕ) (moves : ℕ) : Type 0 where

@@ -4,15 +4,15 @@ use mathlib.Core.Path.{_≡_, refl, sym, ap, subst, _∙_}
 use mathlib.Core.List.{List}
 use native.Mathlib.Nat.{not-suc-le-zero}
 use native.Mathlib.Omega.{arith}
-use lib.Dec.{eqb}
 use lib.ListN.{length, getD}
 use borrow.Author.Tests.{eq-eqb, ne-eqb}
-use Rattle.folds.specs.Fold.{when, sumTo, turns}
-use Rattle.folds.proofs.Sums.{sumTo-ext, sumTo-only, sumTo-swap, sumTo-mono, sumTo-member}
-use Rattle.graph.specs.Graph.{Graph, vertices, edges, via, through, Formed, Proper}
+use Rattle.folds.specs.Fold.{turns}
+use Rattle.graph.specs.Graph.{Graph, vertices, via, through, Proper}
 use Rattle.graph.specs.Links.{Joins, Linked}
 use Rattle.graph.specs.Rows.{clusters}
 use Rattle.graph.proofs.Edges.{length-through}
+use Rattle.counts.specs.Totals.{Keyed, Totals}
+use Rattle.counts.proofs.Totals.{totals-cost, clusters-few, proper-joins}
 use Rattle.moves.specs.Entries.{stateOf, Good}
 use Rattle.moves.specs.Pass.{Tally, tallyOf, passOf, measure, passes, repeated, refinedOn}
 use Rattle.moves.proofs.Entries.{alone}
@@ -21,33 +21,10 @@ use Rattle.visit.specs.Visit.{Placed}
 use Rattle.refine.specs.declared.PartSums.{PartSums}
 use Rattle.refine.specs.Sums.{SumsOf}
 use Rattle.refine.specs.Work.{Indexed, Work, net, worked}
-use Rattle.refine.specs.Tables.{Summed, Keyed, Shared, Inherits}
+use Rattle.refine.specs.Tables.{Shared, Inherits}
 use Rattle.refine.specs.Rung.{Ready, Settled}
-use Rattle.refine.proofs.Tables.{summed-cost, inherits-through}
+use Rattle.refine.proofs.Tables.{inherits-through}
 use Rattle.refine.proofs.Bridge.{Follows, Priced, pass-follows}
-
-ones : (m : ℕ) → sumTo m (λ i. 1) ≡ m
-unfolding sumTo
-ones zero = refl
-ones (suc m) = omega (arith, ones m)
-
--- no more clusters than vertices, where none is empty
-pub clusters-few : (row : List ℕ) (n g : ℕ) → ((v : ℕ) → v < n → getD row v 0 < g) → ((c : ℕ) → c < g → (v : ℕ) × (v < n) × (getD row v 0 ≡ c)) → g ≤ n
-clusters-few row n g low onto =
-    omega (
-      arith,
-      ones g,
-      ones n,
-      sumTo-mono g (λ c. 1) (λ c. sumTo n (λ v. when (eqb (getD row v 0) c) 1)) (λ c l. some c l),
-      sumTo-swap g n (λ c v. when (eqb (getD row v 0) c) 1),
-      sumTo-ext n (λ v. sumTo g (λ c. when (eqb (getD row v 0) c) 1)) (λ v. 1) (λ v l. sumTo-only g (getD row v 0) (λ c. 1) (low v l)),
-    )
-  where
-    some : (c : ℕ) → c < g → 1 ≤ sumTo n (λ v. when (eqb (getD row v 0) c) 1)
-    some c l =
-        let (v, lv, e) = onto c l in
-        let m : when (eqb (getD row v 0) c) 1 ≤ sumTo n (λ i. when (eqb (getD row i 0) c) 1) = sumTo-member n (λ i. when (eqb (getD row i 0) c) 1) v lv in
-        let w = rw (eq-eqb (getD row v 0) c e) at m in omega arith
 
 -- some number of passes, which is enough, makes R of s
 pub record Going (G : Graph) (k bound : ℕ) (row : List ℕ) (s R : Tally) : Type 0 where
@@ -123,21 +100,6 @@ module _ (G : Graph) (P : Proper G) (k bound : ℕ) (few : k ≤ 16) (row costs 
     unfolding s
     stands-end e = ap (λ (m : ℕ). tallyOf (through row (w′ .table)) m) (sym e) ∙ follows .is ∙ going-end s R (sym moves-as ∙ e) (x .going)
 
--- edges between the vertices of a row or a table
-pub proper-joins : {G : Graph} → Proper G → (row : List ℕ) → length row ≡ vertices G → ((v : ℕ) → v < length row → getD row v 0 < 512) → Joins row (G .starts) (G .ends)
-proper-joins {G} P row whole low =
-    record {
-      out = record { few = P .many; rows = rows; in-row = λ j l. omega (arith, F .start-in j l); low = low };
-      into = record { few = omega (arith, P .many, F .same-ends); rows = rows; in-row = λ j l. omega (arith, F .end-in j (omega (arith, F .same-ends))); low = low };
-      same = F .same-ends;
-    }
-  where
-    F : Formed G
-    F = P .formed
-
-    rows : length row ≤ 512
-    rows = omega (arith, P .few)
-
 -- from what the work on a rung asks for
 module _ {G : Graph} {k bound : ℕ} {row parts : List ℕ} {moves : ℕ} (A : Ready G k bound row parts moves) where
   pub ready-few : clusters row ≤ 512
@@ -146,8 +108,8 @@ module _ {G : Graph} {k bound : ℕ} {row parts : List ℕ} {moves : ℕ} (A : R
   pub ready-keyed : Keyed row (G .costs) 512
   ready-keyed = record { same = A .row-of .whole; few = A .proper .few; low = λ v l. omega (arith, A .row-of .below v l, ready-few) }
 
-  pub ready-priced : {sums : List ℕ} → Summed row (G .costs) 512 (length (G .costs)) sums → Priced G row sums
-  ready-priced s = record { whole = A .row-of .whole; few = ready-few; onto = A .onto; cost = λ c l. summed-cost row (G .costs) s c (omega (arith, ready-few)) }
+  pub ready-priced : {sums : List ℕ} → Totals row (G .costs) 512 (length (G .costs)) sums → Priced G row sums
+  ready-priced s = record { whole = A .row-of .whole; few = ready-few; onto = A .onto; cost = λ c l. totals-cost row (G .costs) s c (omega (arith, ready-few)) }
 
   low : (v : ℕ) → v < length row → getD row v 0 < 512
   low v l = omega (arith, A .row-of .below v (omega (arith, A .row-of .whole)), ready-few)

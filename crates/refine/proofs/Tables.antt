@@ -1,52 +1,19 @@
 -- Laws of the loops over vertices.
-use Prim.Native.Nat.{ℕ, suc, _+_, _≤_, _<_, max}
+use Prim.Native.Nat.{ℕ, _+_, _≤_, _<_}
 use mathlib.Core.Path.{_≡_, refl, sym, _∙_}
 use mathlib.Core.List.{List}
 use native.Mathlib.Numerals.{add-one}
 use native.Mathlib.Omega.{arith}
-use lib.Dec.{eqb, ltb}
 use lib.ListN.{length, getD, set, length-set, replicate, getD-replicate}
 use lib.Seq.{getD-set-same, getD-set-other}
-use borrow.Author.Tests.{ltb-true, ltb-false}
-use Rattle.folds.specs.Fold.{when, maxTo, Read, Filled}
-use Rattle.folds.proofs.Cases.{by, either, eq-or-ne, last-or}
-use Rattle.folds.proofs.Sums.{sumTo-zero, sumTo-step, sumTo-le}
-use Rattle.folds.proofs.Lists.{set-add, listed}
+use Rattle.folds.specs.Fold.{Read, Filled}
+use Rattle.folds.proofs.Cases.{either, eq-or-ne, last-or}
+use Rattle.folds.proofs.Lists.{listed}
 use Rattle.folds.proofs.Slices.{filled-all}
-use Rattle.graph.specs.Graph.{costIn, partCost, through}
+use Rattle.graph.specs.Graph.{through}
 use Rattle.graph.specs.Rows.{clusters}
-use Rattle.graph.proofs.Edges.{cost-in-le}
-use Rattle.moves.specs.Pass.{greater}
 use Rattle.visit.specs.Visit.{Placed}
-use Rattle.refine.specs.Tables.{Keyed, Summed, Shared, Inherits}
-
--- sums by key
-module _ (keys costs : List ℕ) where
-  pub summed-none : {g : ℕ} (sums : List ℕ) → length sums ≡ g → ((u : ℕ) → u < g → getD sums u 0 ≡ 0) → Summed keys costs g 0 sums
-  summed-none sums e z = record { long = e; is = λ u l. z u l ∙ sym (sumTo-zero _) }
-
-  pub summed-turn : {g i c x b b′ : ℕ} (sums : List ℕ) → Summed keys costs g i sums → Keyed keys costs g → i < length costs → Read keys i b c → Read costs i b′ x
-      → Summed keys costs g (i + 1) (set sums c (getD sums c 0 + x))
-  unfolding costIn
-  summed-turn {i = i} {c = c} {x = x} sums s k l rc rx =
-      record {
-        long = length-set sums c _ ∙ s .long;
-        is = λ u lu.
-            let low = k .low i l in
-            let q : c < length sums = rw (rc .is, s .long) low in
-            let t : when (eqb c u) x ≡ when (eqb (getD keys i 0) u) (getD costs i 0) = rw (rc .is, rx .is) in
-            omega (arith, set-add sums c x u q, s .is u lu, sumTo-step i (λ v. when (eqb (getD keys v 0) u) (getD costs v 0)), t);
-      }
-
-  pub summed-room : {g i : ℕ} (sums : List ℕ) → Summed keys costs g i sums → i ≤ 512 → ((v : ℕ) → getD costs v 0 ≤ 65535) → (u : ℕ) → u < g → getD sums u 0 ≤ 33553920
-  summed-room {i = i} sums s l w u lu = omega (arith, s .is u lu, sumTo-le i 65535 (costIn costs keys u) (cost-in-le costs keys u 65535 w))
-
-  pub summed-cost : {g : ℕ} {sums : List ℕ} → Summed keys costs g (length costs) sums → (u : ℕ) → u < g → getD sums u 0 ≡ partCost costs keys u
-  unfolding partCost
-  summed-cost s = s .is
-
-pub zero-sums : (n u : ℕ) → u < n → getD {A = ℕ} (replicate n 0) u 0 ≡ 0
-zero-sums n u l = getD-replicate {A = ℕ} n u 0 0 l
+use Rattle.refine.specs.Tables.{Shared, Inherits}
 
 -- the parts of clusters
 pub placed-zeros : Placed (replicate 512 0)
@@ -86,22 +53,6 @@ pub through-filled : (row table : List ℕ) {l₀ l : List ℕ} {n : ℕ} → Fi
 unfolding through
 through-filled row table w h e = filled-all w h ∙ rw e
 
--- the number of clusters
-greater-max : (a b : ℕ) → greater a b ≡ max a b
-unfolding greater
-greater-max a b = by (ltb a b) (λ t. let l = ltb-true a b t in rw t (omega arith)) (λ t. let l = ltb-false a b t in rw t (omega arith))
-
-pub count-none : (f : ℕ → ℕ) → 0 ≡ maxTo 0 f
-unfolding maxTo
-count-none f = refl
-
-pub count-turn : (row : List ℕ) {i c r s b : ℕ} → s ≡ maxTo i (λ v. suc (getD row v 0)) → Read row i b c → r ≡ greater s (c + 1) → r ≡ maxTo (i + 1) (λ v. suc (getD row v 0))
-unfolding maxTo
-count-turn row {i} {c} {r} {s} e rc h = rw add-one (h ∙ greater-max s (c + 1) ∙ omega (arith, rc .is))
-
--- what a read of a key gives
-pub keyed-in : {keys costs : List ℕ} {g i b c : ℕ} → Keyed keys costs g → i < length costs → Read keys i b c → c < g
-keyed-in k l r = rw (r .is) (k .low _ l)
-
+-- what a read of a row gives
 pub shared-in : {row parts : List ℕ} {i b c : ℕ} → Shared row parts → i < length row → Read row i b c → c < 512
 shared-in s l r = rw (r .is) (s .low _ l)

@@ -1,17 +1,17 @@
 // Refinement: clusters move between parts, down the rungs, where the cut falls.
 ghost use mathlib.Core.Bool.{true};
 ghost use mathlib.Core.Path.{_≡_};
-ghost use Prim.Native.Nat.{ℕ, _+_, _<_, _≤_, _^_};
+ghost use Prim.Native.Nat.{_+_, _<_, _≤_, _^_};
 ghost use lib.ListN.{length, getD, take};
 ghost use Rattle.folds.specs.Fold.{turns};
 ghost use Rattle.graph.specs.Graph.{graphOf, through};
-ghost use Rattle.graph.specs.Rows.{clusters};
+ghost use Rattle.counts.specs.Totals.{Keyed};
 ghost use Rattle.moves.specs.Pass.{tallyOf, refinedOn, refined};
 ghost use Rattle.visit.specs.Visit.{Placed};
 ghost use Rattle.refine.specs.Down.{rowsIn, Descends, Refined};
 ghost use Rattle.refine.specs.Rung.{Ready, Settled};
 ghost use Rattle.refine.specs.Sums.{SumsOf, sumsAllow, Shifts, Shifted};
-ghost use Rattle.refine.specs.Tables.{Keyed, Summed, Shared, Inherits};
+ghost use Rattle.refine.specs.Tables.{Shared, Inherits};
 ghost use Rattle.refine.specs.Work.{betterOf, backOf, Chosen, Indexed, workOf, net, worked, Done};
 
 // The cost of each of up to 16 parts, and how many parts there are.
@@ -27,7 +27,7 @@ impl PartSums {
         ensures { λ r. ⌜ SumsOf (now (costs .entry)) (now (parts .entry)) k r ⌝ }
     {
         let mut sums = [0u32; 16];
-        sum_costs(parts, costs, &mut sums);
+        counts::sum_costs(parts, costs, &mut sums);
         PartSums {
             sums: sums,
             count: k,
@@ -229,35 +229,6 @@ fn pass(
     p
 }
 
-// Adds each cost to the sum of its key.
-fn sum_costs(keys: &[u16], costs: &[u16], sums: &mut [u32])
-    requires { ⌜ Keyed (now keys) (now costs) (length (now sums)) ⌝ }
-    requires { ⌜ ((u : ℕ) → u < length (now sums) → getD (now sums) u 0 ≡ 0) ⌝ }
-    ensures { λ _. ⌜ Summed (now (keys .entry)) (now (costs .entry)) (length (now (sums .entry))) (length (now (costs .entry))) (now (sums .exit)) ⌝ }
-{
-    let n = costs.len();
-    let mut v: usize = 0;
-    while v < n {
-        let c = folds::at16(keys, v);
-        sums[c] = sums[c] + visit::entry(costs, v);
-        v += 1;
-    }
-}
-
-// How many clusters a row has.
-pub fn cluster_count(row: &[u16]) -> usize
-    ensures { λ r. ⌜ r ≡ clusters (now (row .entry)) ⌝ }
-{
-    let n = row.len();
-    let mut count: usize = 0;
-    let mut v: usize = 0;
-    while v < n {
-        count = visit::most(count, folds::at16(row, v) + 1);
-        v += 1;
-    }
-    count
-}
-
 // Gives each cluster the part of its vertices.
 fn inherit(row: &[u16], parts: &[u16], table: &mut [u16; 512])
     requires { ⌜ Shared (now row) (now parts) ⌝ }
@@ -311,8 +282,8 @@ fn settle(
     ensures { λ r. ⌜ Settled (graphOf (now (costs .entry)) (now (starts .entry)) (now (ends .entry)) (now (widths .entry))) (before .sums .count) bound (now (row .entry)) (now (table .entry)) (before .moves) (now (table .exit)) r ⌝ }
 {
     let mut cluster_costs = [0u32; 512];
-    sum_costs(row, costs, &mut cluster_costs);
-    let g = cluster_count(row);
+    counts::sum_costs(row, costs, &mut cluster_costs);
+    let g = counts::cluster_count(row);
     let mut p = before;
     loop {
         let moves = p.moves;

@@ -1,5 +1,5 @@
 -- Walks along a cluster's edges that see the parts at the far ends.
-use Prim.Native.Nat.{ℕ, _+_, _≤_, _<_}
+use Prim.Native.Nat.{ℕ, _+_, _≤_, _<_, min, max}
 use mathlib.Core.Path.{_≡_, refl, sym, ap, _∙_}
 use mathlib.Core.Bool.{true, false, _&&_}
 use mathlib.Core.List.{List}
@@ -16,7 +16,7 @@ use Rattle.graph.specs.Links.{Linked, Ends, Cluster}
 use Rattle.graph.proofs.Edges.{through-at}
 use Rattle.graph.proofs.Links.{Only, Acts, On, sum-on, sum-next, turns-on, turns-next}
 use Rattle.moves.specs.Move.{leaves, share}
-use Rattle.moves.specs.Pass.{lesser, greater, lowered, raised}
+use Rattle.moves.specs.Pass.{lowered, raised}
 use Rattle.visit.specs.Visit.{Room, Reached, Seen}
 
 module _ (row near far : List ℕ) (h : ℕ) where
@@ -75,12 +75,12 @@ module _ (row near far widths parts : List ℕ) (h : ℕ) where
           }
 
       pub reach-turn : (p w : ℕ) → leaves row near far h j ≡ true → p ≡ via parts far j → p < 16 → w ≡ getD widths j 0
-          → Reached row near far widths parts h k (getD next j 0) toward (lesser low p) (greater high (p + 1)) (set now p (getD now p 0 + w))
+          → Reached row near far widths parts h k (getD next j 0) toward (min low p) (max high (p + 1)) (set now p (getD now p 0 + w))
       unfolding lowered raised share
       reach-turn p w e q lp g =
           record {
-            low-is = turns-next L h j _ k low (lesser low p) lowered-acts o l (R .low-is) (rw (e, q));
-            high-is = turns-next L h j _ 0 high (greater high (p + 1)) raised-acts o l (R .high-is) (rw (e, q));
+            low-is = turns-next L h j _ k low (min low p) lowered-acts o l (R .low-is) (rw (e, q));
+            high-is = turns-next L h j _ 0 high (max high (p + 1)) raised-acts o l (R .high-is) (rw (e, q));
             long = length-set now p _ ∙ R .long;
             toward-is = λ u lu.
                 omega (

@@ -1,11 +1,10 @@
 // A visit of a cluster, by its own edges: the parts that they lead to, and their width to each.
 ghost use mathlib.Core.Path.{_≡_};
-ghost use Prim.Native.Nat.{_<_};
+ghost use Prim.Native.Nat.{_<_, min};
 ghost use lib.ListN.{length};
 ghost use Rattle.folds.specs.Fold.{Read};
 ghost use Rattle.graph.specs.Graph.{via, through};
 ghost use Rattle.graph.specs.Links.{Linked, Joins};
-ghost use Rattle.moves.specs.Pass.{lesser, greater};
 ghost use Rattle.visit.specs.Visit.{Placed, Room, Reached, Seen};
 
 // The lowest part seen, and one more than the highest.
@@ -15,15 +14,9 @@ pub struct Span {
 }
 
 fn least(a: usize, b: usize) -> usize
-    ensures { λ r. ⌜ r ≡ lesser a b ⌝ }
+    ensures { λ r. ⌜ r ≡ min a b ⌝ }
 {
     if b < a { b } else { a }
-}
-
-pub fn most(a: usize, b: usize) -> usize
-    ensures { λ r. ⌜ r ≡ greater a b ⌝ }
-{
-    if a < b { b } else { a }
 }
 
 // The part of cluster c.
@@ -33,14 +26,6 @@ pub fn part_at(table: &[u16; 512], c: usize) -> usize
     ensures { λ r. ⌜ Read (now (table .entry)) c 16 r ⌝ }
 {
     folds::wide(table[c])
-}
-
-// An entry as a u32, with its bound.
-pub fn entry(s: &[u16], i: usize) -> u32
-    requires { ⌜ i < length (now s) ⌝ }
-    ensures { λ r. ⌜ Read (now (s .entry)) i 65536 r ⌝ }
-{
-    s[i] as u32
 }
 
 // The parts at the far ends of the edges whose near end is in h, and the width to each.
@@ -75,8 +60,8 @@ fn reach(
         if c != h {
             let p = part_at(table, c);
             low = least(low, p);
-            high = most(high, p + 1);
-            toward[p] = toward[p] + entry(widths, i);
+            high = counts::larger(high, p + 1);
+            toward[p] = toward[p] + counts::entry(widths, i);
         }
     }
     Span {

@@ -1,5 +1,5 @@
 use Rattle.refine.proofs.Rung.{Stands, ready-keyed, ready-priced, ready-stands, ready-few, stands-fall, stands-turn, stands-end}
-use Rattle.refine.proofs.Tables.{zero-sums}
+use Rattle.counts.proofs.Totals.{zero-sums}
 use Rattle.refine.proofs.Bridge.{Priced}
 use Rattle.refine.specs.Work.{workOf}
 use Rattle.graph.specs.Graph.{graphOf, through}

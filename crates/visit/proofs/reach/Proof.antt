@@ -63,7 +63,7 @@ reach-spec =
     let o = l .inv .1 in (
       refl,
       rw (c .before .before .before .before .before .before .before .wide2 .ensures) (walk-next (p .1 .1 .1 .0) _ _ o t),
-      rw (c .before .before .before .before .before .before .before .wide2 .ensures, c .before .before .before .least .ensures, c .before .before .most .ensures)
+      rw (c .before .before .before .before .before .before .before .wide2 .ensures, c .before .before .before .least .ensures, c .before .before .larger .ensures)
           (reach-turn _ _ _ _ _ _ (p .1 .1 .1 .0) _ _ (l .j) _ _ _ o t (l .inv .2) _ _ (leaves-yes _ _ _ _ (l .j) (o .at t) k (c .before .before .before .before .before .if1 .taken))
           (part-is _ _ _ (l .j) (p .0 .into) (joined-ends (p .0) t) k (q .is)) (q .low) (c .entry .ensures .is)),
     ))

@@ -1,4 +1,4 @@
-use Rattle.refine.proofs.Tables.{zero-sums, summed-cost}
+use Rattle.counts.proofs.Totals.{zero-sums, totals-cost}
 use mathlib.Core.Path.{refl}
 use borrow.Author.Needs.{needs}
 use Rattle.refine.proofs.PartSums.of_table.Statement.{statement}
@@ -10,4 +10,4 @@ of-table-spec =
     (tie.spec
     (λ c. search needs)
     (λ c κs. (c .before .before .before .pre, zero-sums 16))
-    (λ c. let s = c .before .sum-costs .ensures in record { counts = refl; long = s .long; is = summed-cost _ _ s }))
+    (λ c. let s = c .before .sum-costs .ensures in record { counts = refl; long = s .long; is = totals-cost _ _ s }))

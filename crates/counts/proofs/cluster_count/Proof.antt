@@ -1,4 +1,4 @@
-use Rattle.refine.proofs.Tables.{count-none, count-turn}
+use Rattle.counts.proofs.Totals.{count-none, count-turn}
 use Rattle.graph.specs.Rows.{clusters}
 use Rattle.folds.specs.Fold.{maxTo}
 use Prim.Native.Nat.{suc, _≤_, _-_}
@@ -6,8 +6,8 @@ use mathlib.Core.Path.{_≡_, refl}
 use native.Mathlib.Omega.{arith}
 use lib.ListN.{length, getD}
 use borrow.Author.Needs.{needs}
-use Rattle.refine.proofs.cluster_count.Statement.{statement}
-use Rattle.refine.proofs.cluster_count.Tie as tie
+use Rattle.counts.proofs.cluster_count.Statement.{statement}
+use Rattle.counts.proofs.cluster_count.Tie as tie
 
 abbrev Inv-loop : tie.InvT-loop
 Inv-loop row n count₀ v₀ count v = (v ≤ n) × (n ≡ length row) × (count ≡ maxTo v (λ i. suc (getD row i 0)))
@@ -26,5 +26,5 @@ cluster-count-spec =
     (λ c κs. search needs)
     (λ c. search needs)
     (λ c. search needs)
-    (λ c. let w = c .before .before .before .loop .inv in (omega arith, refl, count-turn _ (w .2) (c .before .at16 .ensures) (c .most .ensures)))
+    (λ c. let w = c .before .before .before .loop .inv in (omega arith, refl, count-turn _ (w .2) (c .before .at16 .ensures) (c .larger .ensures)))
     (λ c. let w = c .before .loop .inv in let q : c .before .loop .v ≡ length (c .before .before .before .args .row .now) = omega arith in rw q at (w .2)))

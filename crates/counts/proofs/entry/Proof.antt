@@ -1,8 +1,8 @@
 use mathlib.Core.Path.{refl}
 use native.Mathlib.Omega.{arith}
 use borrow.Author.Needs.{needs}
-use Rattle.visit.proofs.entry.Statement.{statement}
-use Rattle.visit.proofs.entry.Tie as tie
+use Rattle.counts.proofs.entry.Statement.{statement}
+use Rattle.counts.proofs.entry.Tie as tie
 
 pub entry-spec : {M : Type 1} → statement M
 entry-spec =

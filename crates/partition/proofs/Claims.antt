@@ -1,0 +1,182 @@
+-- DEMAND 3, whole: each part one claim about the split of a valid graph.
+use Prim.Native.Nat.{ℕ, suc, _+_, _*_, _≤_, _<_}
+use mathlib.Core.Path.{_≡_, refl, sym, ap, _∙_}
+use mathlib.Core.Bool.{Bool, true, _&&_}
+use mathlib.Core.Logic.{_↔_}
+use mathlib.Core.List.{List, [], _∷_}
+use native.Mathlib.Omega.{arith}
+use lib.Dec.{leb}
+use lib.IntN.{ℤ, pos, _+ℤ_}
+use lib.ListN.{length, getD, take}
+use borrow.Author.Tests.{le-leb}
+use Rattle.folds.specs.Fold.{over}
+use Rattle.folds.proofs.Cases.{either, eq-or-ne}
+use Rattle.folds.proofs.Slices.{take-over, length-over}
+use Rattle.graph.specs.Walk.{Acyclic}
+use Rattle.graph.specs.Graph.{Graph, vertices, edges, identity, seen, Edge, cutOf, partCost}
+use Rattle.graph.specs.Rows.{Hierarchy}
+use Rattle.graph.proofs.Walks.{rank-law}
+use Rattle.graph.proofs.Edges.{edge-arc, edge-other}
+use Rattle.topology.specs.Order.{orderOf}
+use Rattle.topology.proofs.Sorted.{order-sorted}
+use Rattle.validity.specs.Cause.{Answer, refusal, told}
+use Rattle.validity.specs.Check.{checked, Valid}
+use Rattle.validity.specs.Sound.{Sound}
+use Rattle.validity.specs.declared.Cause.the-variants.{Uncut}
+use Rattle.validity.specs.declared.Verdict.{Verdict}
+use Rattle.validity.specs.declared.Verdict.the-variants.{Passed, Refused}
+use Rattle.validity.proofs.Passed.{valid-sound}
+use Rattle.inspection.specs.Table.{tableOf, Fine}
+use Rattle.inspection.specs.Inspect.{inspectOf, orderAfter}
+use Rattle.inspection.specs.Inspect as inspect
+use Rattle.inspection.proofs.Tables.{fine-passed}
+use Rattle.contraction.specs.Rules.{Round}
+use Rattle.contraction.specs.Rounds.{rowAfter, AllKeep}
+use Rattle.contraction.proofs.Rounds.{rounds-acyclic}
+use Rattle.hierarchy.specs.Climb.{keptOf, rowOf, ladderAfter}
+use Rattle.hierarchy.specs.Claim.{OwnRounds}
+use Rattle.hierarchy.proofs.Own.{own-rounds, rows-hierarchy}
+use Rattle.initial.specs.Initial.{Chosen, found, uncut, chosenOf, LeastCut, Divides}
+use Rattle.initial.proofs.Claims.{initial-least, none-exactly, initial-good}
+use Rattle.moves.specs.Entries.{State, stateOf, Entry, down, after, AllAllowed, cutAt, gain, gains, Good}
+use Rattle.moves.specs.Pass.{Tally, refined}
+use Rattle.moves.specs.Own.{Took}
+use Rattle.moves.specs.Move.{place, partSize}
+use Rattle.moves.proofs.Claims.{moves-law, own-moves, few-moves, refined-good}
+use Rattle.partition.specs.Phases.{Result, nothing, parted, firstOf, refinedFrom, resultOf}
+use Rattle.partition.specs.Split.{roomFor, verdictOf, valuesOf, answerAfter, splitOf, partsInto, ifPassed, tableAfter, ladderLeft}
+use Rattle.partition.proofs.Rows.{good-start}
+
+module _ (G : Graph) (k bound : ℕ) (valid : Valid G k bound) where
+  sound : Sound G k bound
+  sound = valid-sound G k bound valid
+
+  kept : Hierarchy G (rowOf G k bound) (keptOf G k bound)
+  kept = rows-hierarchy G k bound (sound .proper .formed) (sound .acyclic)
+
+  -- ROUNDS: for every list of rounds that keep the join rules, each on its own rung, the groups after every round form no loop
+  pub split-rounds : (rs : List Round) → AllKeep G (identity (vertices G)) rs → (i : ℕ) → Acyclic (Edge (seen G (rowAfter (identity (vertices G)) (take i rs))))
+  split-rounds = rounds-acyclic G (sound .proper .formed) (sound .acyclic)
+
+  -- the split's own rounds are such a list: it leaves the ladder that the split leaves
+  pub split-own-rounds : (ladder : List ℕ) → (rs : List Round) × OwnRounds G k bound (ladderAfter G k bound ladder) rs
+  split-own-rounds = own-rounds G k bound (sound .proper .formed) (sound .acyclic)
+
+  -- what the phases gave, taken apart
+  first-found : {rung : ℕ} {first : List ℕ} {tally : Tally} → resultOf G k bound ≡ parted rung first tally
+      → (cut : ℕ) × (firstOf G k bound ≡ found rung first cut) × (tally ≡ refined G k bound (rowOf G k bound) rung first)
+  unfolding resultOf
+  first-found {rung} {first} {tally} e = go (firstOf G k bound) refl
+    where
+      go : (x : Chosen) → firstOf G k bound ≡ x → (cut : ℕ) × (firstOf G k bound ≡ found rung first cut) × (tally ≡ refined G k bound (rowOf G k bound) rung first)
+      go uncut q = let p = rw q at e in let z : _≡_ {A = ℕ} 0 1 = cc in absurd (omega arith)
+      go (found r t c) q =
+          let p = rw q at e in
+          let er : r ≡ rung = cc in
+          let et : t ≡ first = cc in
+          let es : refined G k bound (rowOf G k bound) r t ≡ tally = cc in
+          (c, q ∙ rw (er, et), sym es ∙ rw (er, et))
+
+  -- FIRST CUT: the first cut is least on its rung, the first among equals, and no higher kept rung can be divided
+  pub split-least : {rung : ℕ} {first : List ℕ} {tally : Tally} → resultOf G k bound ≡ parted rung first tally
+      → LeastCut G k bound (rowOf G k bound) (keptOf G k bound) rung first (cutOf G first)
+  unfolding firstOf
+  split-least e =
+      let (c, q, _) = first-found e in
+      let L = initial-least (sound .proper) kept k bound q in
+      rw (L .cuts) at L
+
+  -- the first cut's table is good on its rung
+  first-good : {rung : ℕ} {first : List ℕ} {tally : Tally} → resultOf G k bound ≡ parted rung first tally → Good G k bound (rowOf G k bound) (keptOf G k bound) (stateOf rung first)
+  unfolding firstOf
+  first-good e = let (c, q, _) = first-found e in good-start (split-least e .kept) (initial-good (sound .proper) kept k bound q)
+
+  -- MOVES: from the first cut, for every list of moves to allowed candidates down the rungs, whoever picked them: at the first cut and after each
+  -- entry no edge goes from a later part to an earlier one and no part is empty or over the bound, and with each entry the cut falls by its gain
+  pub split-moves : {rung : ℕ} {first : List ℕ} {tally : Tally} → resultOf G k bound ≡ parted rung first tally
+      → (es : List Entry) → AllAllowed G bound (rowOf G k bound) es (stateOf rung first)
+      → ((i : ℕ) → Good G k bound (rowOf G k bound) (keptOf G k bound) (after (rowOf G k bound) (take i es) (stateOf rung first)))
+      × ((i : ℕ) → i < length es → pos (cutAt G (after (rowOf G k bound) (take i es) (stateOf rung first)))
+        ≡ pos (cutAt G (after (rowOf G k bound) (take (suc i) es) (stateOf rung first))) +ℤ gain G (rowOf G k bound) (getD es i down) (after (rowOf G k bound) (take i es) (stateOf rung first)))
+  split-moves e = moves-law G (sound .proper) k bound (rowOf G k bound) (keptOf G k bound) kept (stateOf _ _) (first-good e)
+
+  -- the split's own moves are such a list, each of gain above 0, with as many steps down as the rung that was cut; they lead to the table answered
+  -- on rung 0, number the moves answered, and the first cut is the cut answered plus their gains
+  pub split-own-moves : {rung : ℕ} {first : List ℕ} {tally : Tally} → resultOf G k bound ≡ parted rung first tally
+      → (x : Took G bound (rowOf G k bound) (stateOf rung first) (stateOf 0 (tally .parts)) (tally .moves) rung)
+      × (pos (cutOf G first) ≡ pos (cutOf G (tally .parts)) +ℤ gains G (rowOf G k bound) (x .list) (stateOf rung first))
+  split-own-moves {rung} {first} e =
+      let (c, _, t) = first-found e in
+      rw t (own-moves G (sound .proper) k bound (rowOf G k bound) (keptOf G k bound) kept rung first (first-good e))
+
+  -- the moves answered are never more than the first cut less the cut answered
+  pub split-few-moves : {rung : ℕ} {first : List ℕ} {tally : Tally} → resultOf G k bound ≡ parted rung first tally → tally .moves + cutOf G (tally .parts) ≤ cutOf G first
+  split-few-moves {rung} {first} e =
+      let (c, _, t) = first-found e in
+      rw t (few-moves G (sound .proper) k bound (rowOf G k bound) (keptOf G k bound) kept rung first (first-good e))
+
+  -- AT THE END: the table answered is good on rung 0
+  pub split-good : {rung : ℕ} {first : List ℕ} {tally : Tally} → resultOf G k bound ≡ parted rung first tally
+      → Good G k bound (rowOf G k bound) (keptOf G k bound) (stateOf 0 (tally .parts))
+  split-good {rung} {first} e =
+      let (c, _, t) = first-found e in
+      rw t (refined-good G (sound .proper) k bound (rowOf G k bound) (keptOf G k bound) kept rung first (first-good e))
+
+  -- 9 comes exactly when no kept rung has such a division
+  pub split-nine : (table ladder : List ℕ) → vertices G ≤ length table → 9 * vertices G ≤ length ladder
+      → (splitOf G k bound table ladder ≡ refusal Uncut 0) ↔ ((q : ℕ) → q ≤ keptOf G k bound → (d : List ℕ) → Divides G k bound (rowOf G k bound q) d → ⊥)
+  unfolding splitOf verdictOf roomFor resultOf firstOf
+  split-nine table ladder lt ll = (there, back)
+    where
+      passes : checked 512 G k bound (leb (vertices G) (length table) && leb (9 * vertices G) (length ladder)) ≡ Passed
+      passes = rw (le-leb _ _ lt, le-leb _ _ ll) valid
+
+      there : answerAfter (checked 512 G k bound (leb (vertices G) (length table) && leb (9 * vertices G) (length ladder))) (valuesOf G (keptOf G k bound) (refinedFrom G k bound (firstOf G k bound))) ≡ refusal Uncut 0
+          → (q : ℕ) → q ≤ keptOf G k bound → (d : List ℕ) → Divides G k bound (rowOf G k bound q) d → ⊥
+      there e = none-exactly (sound .proper) kept k bound .0 (go (firstOf G k bound) refl)
+        where
+          go : (x : Chosen) → firstOf G k bound ≡ x → firstOf G k bound ≡ uncut
+          go uncut q = q
+          go (found r t c) q =
+              let p = rw (passes, q) at e in
+              let z : _≡_ {A = ℕ} 0 9 = ap (λ (a : Answer). a .number) p in absurd (omega arith)
+
+      back : ((q : ℕ) → q ≤ keptOf G k bound → (d : List ℕ) → Divides G k bound (rowOf G k bound q) d → ⊥)
+          → answerAfter (checked 512 G k bound (leb (vertices G) (length table) && leb (9 * vertices G) (length ladder))) (valuesOf G (keptOf G k bound) (refinedFrom G k bound (firstOf G k bound))) ≡ refusal Uncut 0
+      back h = rw (passes, none-exactly (sound .proper) kept k bound .1 h)
+
+  -- the table answered is fine for inspection
+  split-fine : {rung : ℕ} {first : List ℕ} {tally : Tally} → resultOf G k bound ≡ parted rung first tally → Fine G k bound (tally .parts)
+  unfolding place partSize
+  split-fine {tally = tally} e =
+      let I = split-good e in
+      record {
+        named = I .below;
+        filled = I .filled;
+        within = I .within;
+        acyclic = rank-law (Edge (seen G (tally .parts))) (λ u. u) (λ a b t.
+          let (j, l, ea, eb) = edge-arc (seen G (tally .parts)) a b t in
+          let n = edge-other (seen G (tally .parts)) a b t in
+          rises a b n (I .forward j l) ea eb);
+      }
+    where
+      rises : (a b : ℕ) {x y : ℕ} → (a ≡ b → ⊥) → x ≤ y → x ≡ a → y ≡ b → a < b
+      rises a b n l ex ey = either (eq-or-ne a b) (λ q. absurd (n q)) (λ q. omega arith)
+
+  -- inspection passes every table that the split writes, with the same cut and the start order 0, 1, .., k - 1
+  pub split-inspects : {rung : ℕ} {first : List ℕ} {tally : Tally} → resultOf G k bound ≡ parted rung first tally
+      → (table ladder order : List ℕ) → vertices G ≤ length table → 9 * vertices G ≤ length ladder → k ≤ length order
+      → (inspectOf G k bound (tableAfter G k bound table ladder) order ≡ record { number = 0; values = cutOf G (tally .parts) ∷ [] })
+      × (orderAfter G k bound (tableAfter G k bound table ladder) order ≡ over (identity k) order)
+  unfolding tableAfter verdictOf roomFor inspectOf orderAfter inspect.verdictOf inspect.partsOf place
+  split-inspects {tally = tally} e table ladder order lt ll lo =
+      rw (le-leb _ _ lt, le-leb _ _ ll, valid, e, take-over (tally .parts) table (vertices G) (I .whole), room, valid, fine-passed G k bound (tally .parts) (sound .proper) (split-fine e)) (refl, ap (λ (l : List ℕ). over l order) sorted)
+    where
+      I : Good G k bound (rowOf G k bound) (keptOf G k bound) (stateOf 0 (tally .parts))
+      I = split-good e
+
+      room : (leb (vertices G) (length (over (tally .parts) table)) && leb k (length order)) ≡ true
+      room = rw (length-over (tally .parts) table (omega (arith, I .whole)), le-leb _ _ lt) (le-leb _ _ lo)
+
+      sorted : orderOf (seen G (tally .parts)) k ≡ identity k
+      sorted = order-sorted (seen G (tally .parts)) k (omega (arith, sound .few)) (λ j l. I .forward j l)

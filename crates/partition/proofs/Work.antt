@@ -1,0 +1,187 @@
+-- The phases one after the other, from what each call answered.
+use Prim.Native.Nat.{ℕ, zero, suc, _+_, _*_, _/_, _≤_, _<_}
+use mathlib.Core.Path.{_≡_, refl, sym, ap, _∙_}
+use mathlib.Core.Bool.{Bool, true, _&&_}
+use mathlib.Core.List.{List, [], _∷_, _++_}
+use mathlib.Core.Logic.{_↔_}
+use native.Mathlib.Nat.{mul-le-mul-right, le-div-iff-mul-le}
+use native.Mathlib.Omega.{arith}
+use lib.ListN.{length, getD, take, drop}
+use lib.Dec.{leb}
+use lib.Seq.{drop-at}
+use borrow.Author.Tests.{leb-true, le-leb}
+use Rattle.folds.proofs.Cases.{both, same-test}
+use Rattle.folds.specs.Fold.{over, part}
+use Rattle.folds.proofs.Slices.{take-over, length-over}
+use Rattle.graph.specs.Graph.{Graph, vertices, cutOf}
+use Rattle.graph.specs.Rows.{Hierarchy}
+use Rattle.validity.specs.Cause.{Answer, refusal}
+use Rattle.validity.specs.Check.{checked, Valid}
+use Rattle.validity.specs.Sound.{Sound}
+use Rattle.validity.specs.declared.Cause.{Cause}
+use Rattle.validity.specs.declared.Verdict.{Verdict}
+use Rattle.validity.specs.declared.Verdict.the-variants.{Passed, Refused}
+use Rattle.validity.proofs.Passed.{passed-valid, valid-sound}
+use Rattle.hierarchy.specs.Climb.{rowsOf, above, keptOf, rowOf, flat, ladderAfter}
+use Rattle.hierarchy.specs.Built.{Built, Buildable}
+use Rattle.hierarchy.proofs.Flat.{length-flat}
+use Rattle.hierarchy.proofs.Own.{rows-hierarchy, hierarchy-ext, row-sound, ladder-row, kept-few}
+use Rattle.initial.specs.Initial.{Chosen, found, uncut, chosenOf}
+use Rattle.initial.specs.Answers.{rowsIn, Chooses, Lent}
+use Rattle.initial.specs.declared.Initial.{Initial}
+use Rattle.initial.specs.declared.Initial.the-variants.{At}
+use Rattle.initial.specs.declared.Initial.the-variants as initial
+use Rattle.initial.proofs.Claims.{initial-least, initial-good}
+use Rattle.initial.proofs.Chooses.{chooses-at, chooses-uncut}
+use Rattle.moves.specs.Entries.{stateOf, Good}
+use Rattle.moves.specs.Pass.{refined}
+use Rattle.moves.proofs.Claims.{refined-good}
+use Rattle.refine.specs.Down.{Descends, Refined}
+use Rattle.refine.specs.declared.Outcome.{Outcome}
+use Rattle.partition.specs.Phases.{Result, nothing, parted, firstOf, refinedFrom, resultOf}
+use Rattle.partition.specs.Split.{answerBy, innerOf, valuesOf, roomFor, verdictOf, splitOf, tableAfter, ladderLeft, partsInto, Works}
+use Rattle.partition.specs.declared.Inner.{Inner}
+use Rattle.partition.specs.declared.Inner.the-variants.{Found, Nothing}
+use Rattle.partition.proofs.Rows.{chosen-ext, refined-ext, good-start}
+
+-- what is written over what was written as far
+over-over : (a b l : List ℕ) → length a ≡ length b → over a (over b l) ≡ over a l
+unfolding over
+over-over a b l e = ap (λ (x : List ℕ). a ++ x) (drop-at b (drop (length b) l) (length a) (sym e) ∙ ap (λ (n : ℕ). drop n l) (sym e))
+
+pub sound-builds : {G : Graph} {k bound : ℕ} → Sound G k bound → Buildable G k
+sound-builds S = record { proper = S .proper; acyclic = S .acyclic; few = S .few }
+
+-- the result, from what the phases left
+works-found : (G : Graph) (k bound : ℕ) {table ladder ladder′ table′ table″ first : List ℕ} {rounds rung c : ℕ} {out : Outcome}
+    → rounds ≡ keptOf G k bound → ladder′ ≡ ladderAfter G k bound ladder → firstOf G k bound ≡ found rung first c
+    → refined G k bound (rowsIn ladder′ (vertices G)) rung first ≡ refined G k bound (rowOf G k bound) rung first
+    → take (vertices G) table′ ≡ first → table′ ≡ over first table
+    → length (refined G k bound (rowsIn ladder′ (vertices G)) rung first .parts) ≡ length first
+    → Refined G k bound ladder′ rung table′ table″ out → Works G k bound table ladder table″ ladder′ (Found (out .cut) rounds rung (out .moves))
+unfolding resultOf
+works-found G k bound {table = table} {first = first} er el q s front et w R =
+    record {
+      is = rw (q, ← s, R .cut-is, R .moves-is, front, er);
+      table-is = rw (q, ← s, R .table-is, front, et) (over-over _ first table w);
+      ladder-is = el;
+    }
+
+module _ (G : Graph) (k bound : ℕ) (S : Sound G k bound) where
+  kept : Hierarchy G (rowOf G k bound) (keptOf G k bound)
+  kept = rows-hierarchy G k bound (S .proper .formed) (S .acyclic)
+
+  few : keptOf G k bound ≤ 8
+  few = kept-few G k bound (S .proper .formed) (S .acyclic)
+
+  rows-length : length (flat (rowsOf G k bound)) ≡ suc (keptOf G k bound) * vertices G
+  unfolding rowsOf keptOf rowOf
+  rows-length = length-flat (vertices G) (rowsOf G k bound) (λ r l. row-sound G k bound (S .proper .formed) (S .acyclic) r (omega arith) .row-of .whole)
+
+  -- after the first phase
+  module _ (table ladder ladder′ : List ℕ) (rounds : ℕ) (B : Built G k bound ladder ladder′ rounds) (lt : vertices G ≤ length table) (ll : 9 * vertices G ≤ length ladder) where
+    same-rows : (r : ℕ) → r ≤ rounds → rowOf G k bound r ≡ rowsIn ladder′ (vertices G) r
+    same-rows r l = rw (B .ladder-is) (sym (ladder-row G k bound (S .proper .formed) (S .acyclic) ladder r (omega (arith, B .kept-is))))
+
+    tall : length ladder′ ≡ length ladder
+    unfolding ladderAfter
+    tall = ap length (B .ladder-is) ∙ length-over (flat (rowsOf G k bound)) ladder (omega (arith, rows-length, few, mul-le-mul-right (vertices G) (room few)))
+      where
+        room : keptOf G k bound ≤ 8 → suc (keptOf G k bound) ≤ 9
+        room h = omega arith
+
+    held : (r : ℕ) → r ≤ rounds → suc r * vertices G ≤ length ladder′
+    held r l = let q : suc r ≤ 9 = omega (arith, few, B .kept-is) in omega (arith, tall, mul-le-mul-right (vertices G) q)
+
+    part-hierarchy : (top : ℕ) → top ≤ rounds → Hierarchy G (rowsIn ladder′ (vertices G)) top
+    part-hierarchy top l =
+        hierarchy-ext G k bound (S .proper .formed) (S .acyclic) (λ r h. same-rows r (omega arith))
+        record {
+          bottom = kept .bottom;
+          row = λ r h. kept .row r (omega (arith, B .kept-is));
+          onto = λ r h. kept .onto r (omega (arith, B .kept-is));
+          acyclic = λ r h. kept .acyclic r (omega (arith, B .kept-is));
+          refines = λ r h. kept .refines r (omega (arith, B .kept-is));
+        }
+
+    pub choose-hierarchy : Hierarchy G (rowsIn ladder′ (vertices G)) rounds
+    choose-hierarchy = part-hierarchy rounds (omega arith)
+
+    pub choose-lent : Lent (vertices G) k rounds ladder′ table
+    choose-lent = record { parts = (S .some, S .few); few = omega (arith, few, B .kept-is); long = held rounds (omega arith); room = lt }
+
+    -- after the second
+    module _ {table′ : List ℕ} {a : Initial} (C : Chooses (chosenOf G k bound (rowsIn ladder′ (vertices G)) rounds) table table′ a) where
+      first-is : chosenOf G k bound (rowsIn ladder′ (vertices G)) rounds ≡ firstOf G k bound
+      unfolding firstOf
+      first-is = rw (← B .kept-is) (sym (chosen-ext G k bound rounds same-rows))
+
+      pub work-none : a ≡ initial.Uncut → Works G k bound table ladder table′ ladder′ Nothing
+      unfolding resultOf
+      work-none e =
+          let (q, t) = chooses-uncut C e in
+          let r : firstOf G k bound ≡ uncut = sym first-is ∙ q in
+          record { is = rw r; table-is = rw r t; ladder-is = B .ladder-is }
+
+      module _ {rung c : ℕ} (e : a ≡ At rung c) where
+        at : (t : List ℕ) × (chosenOf G k bound (rowsIn ladder′ (vertices G)) rounds ≡ found rung t c) × (table′ ≡ over t table)
+        at = chooses-at C e
+
+        below : rung ≤ rounds
+        below = initial-least (S .proper) choose-hierarchy k bound (at .1) .kept
+
+        start : Good G k bound (rowsIn ladder′ (vertices G)) rung (stateOf rung (at .0))
+        start = good-start (omega arith) (initial-good (S .proper) choose-hierarchy k bound (at .1))
+
+        front : take (vertices G) table′ ≡ at .0
+        front = ap (take (vertices G)) (at .2) ∙ take-over (at .0) table (vertices G) (start .whole)
+
+        pub refine-room : vertices G ≤ length table′
+        refine-room = omega (arith, ap length (at .2), length-over (at .0) table (omega (arith, start .whole)))
+
+        pub refine-descends : Descends G k bound ladder′ rung (take (vertices G) table′)
+        refine-descends =
+            record { proper = S .proper; hierarchy = part-hierarchy rung below; good = rw front start; few = S .few; held = held rung below }
+
+        -- and after the third
+        pub work-found : {table″ : List ℕ} {out : Outcome} → Refined G k bound ladder′ rung table′ table″ out
+            → Works G k bound table ladder table″ ladder′ (Found (out .cut) rounds rung (out .moves))
+        work-found R =
+            works-found G k bound (B .kept-is) (B .ladder-is) (sym first-is ∙ at .1) (sym (refined-ext G k bound rung (at .0) (λ r l. same-rows r (omega (arith, below)))))
+            front (at .2) (refined-good G (S .proper) k bound (rowsIn ladder′ (vertices G)) rung (part-hierarchy rung below) rung (at .0) start .whole ∙ sym (start .whole)) R
+
+-- nine rows fit, without forming 9 × n
+pub nine-rows : (n l : ℕ) → leb n (l / 9) ≡ leb (9 * n) l
+nine-rows n l =
+    let w : (n ≤ l / 9) ↔ (n * 9 ≤ l) = le-div-iff-mul-le (omega arith) in
+    same-test _ _ (λ t. le-leb (9 * n) l (omega (arith, w .0 (leb-true n (l / 9) t)))) (λ t. le-leb n (l / 9) (w .1 (omega (arith, leb-true (9 * n) l t))))
+
+-- the checks passed: the phases can run
+module _ (G : Graph) (k bound : ℕ) (table ladder : List ℕ) (room : Bool) (v : Verdict)
+    (er : room ≡ (leb (vertices G) (length table) && leb (9 * vertices G) (length ladder))) (ev : v ≡ checked 512 G k bound room) where
+  pub refused-first : {cause : Cause} {place : ℕ} → v ≡ Refused cause place
+      → (refusal cause place ≡ splitOf G k bound table ladder) × (table ≡ tableAfter G k bound table ladder) × (ladder ≡ ladderLeft G k bound table ladder)
+  unfolding splitOf tableAfter ladderLeft verdictOf roomFor
+  refused-first e = rw (← er, ← ev, e) (refl, refl, refl)
+
+  module _ (passed : v ≡ Passed) where
+    valid : (Valid G k bound) × (room ≡ true)
+    valid = passed-valid 512 G k bound room (omega arith) (sym ev ∙ passed)
+
+    pub sound : Sound G k bound
+    sound = valid-sound G k bound (valid .0)
+
+    pub rooms : (vertices G ≤ length table) × (9 * vertices G ≤ length ladder)
+    rooms =
+        let (a, b) = both (leb (vertices G) (length table)) (leb (9 * vertices G) (length ladder)) (sym er ∙ valid .1) in
+        (leb-true _ _ a, leb-true _ _ b)
+
+    -- the answer, from that of the phases
+    pub worked : {table′ ladder′ : List ℕ} {r : Inner} → Works G k bound table ladder table′ ladder′ r
+        → (answerBy r ≡ splitOf G k bound table ladder) × (table′ ≡ tableAfter G k bound table ladder) × (ladder′ ≡ ladderLeft G k bound table ladder)
+    unfolding splitOf tableAfter ladderLeft verdictOf roomFor
+    worked {r = r} W = rw (← er, ← ev, passed) (ap answerBy (W .is) ∙ same (resultOf G k bound), W .table-is, W .ladder-is)
+      where
+        same : (x : Result) → answerBy (innerOf G (keptOf G k bound) x) ≡ valuesOf G (keptOf G k bound) x
+        same nothing = refl
+        same (parted rung first tally) = refl

@@ -1,0 +1,66 @@
+// The public split: checks, then the three phases of the paper.
+ghost use mathlib.Core.Path.{_≡_};
+ghost use Prim.Native.Nat.{_*_, _≤_};
+ghost use lib.ListN.{length};
+ghost use lib.Dec.{leb};
+ghost use mathlib.Core.Bool.{_&&_};
+ghost use Rattle.graph.specs.Graph.{graphOf};
+ghost use Rattle.validity.specs.Sound.{Sound};
+ghost use Rattle.partition.specs.Split.{answerOf, splitOf, tableAfter, ladderLeft, Works};
+use initial::Initial;
+use validity::Cause;
+use validity::Verdict;
+
+// The cut, the rounds kept, the rung that was cut and the moves; or the refusal.
+pub enum Partitioned {
+    Parted(u32, usize, usize, usize),
+    Failed(Cause, usize),
+}
+
+// The answer of the work below the checks.
+pub enum Inner {
+    Found(u32, usize, usize, usize),
+    Nothing,
+}
+
+// Whether the caller lends enough: an entry of the table for each vertex, and nine rows.
+fn enough(n: usize, table: usize, ladder: usize) -> bool
+    ensures { λ r. ⌜ r ≡ (leb n table && leb (9 * n) ladder) ⌝ }
+{
+    if n <= table {
+        return n <= ladder / 9;
+    }
+    false
+}
+
+// The three phases of the paper: coarsen, initial partition, refine.
+pub fn partition(costs: &[u16], starts: &[u16], ends: &[u16], widths: &[u16], k: usize, bound: u32, table: &mut [u16], ladder: &mut [u16]) -> Inner
+    requires { ⌜ Sound (graphOf (now costs) (now starts) (now ends) (now widths)) k bound ⌝ }
+    requires { ⌜ (length (now costs) ≤ length (now table)) × (9 * length (now costs) ≤ length (now ladder)) ⌝ }
+    ensures { λ r. ⌜ Works (graphOf (now (costs .entry)) (now (starts .entry)) (now (ends .entry)) (now (widths .entry))) k bound (now (table .entry)) (now (ladder .entry)) (now (table .exit)) (now (ladder .exit)) r ⌝ }
+{
+    let rounds = hierarchy::build(costs, starts, ends, widths, k, bound, ladder);
+    let first = initial::choose(costs, starts, ends, widths, ladder, rounds, k, bound, table);
+    let Initial::At(rung, _) = first else {
+        return Inner::Nothing;
+    };
+    let last = refine::refine(costs, starts, ends, widths, k, bound, ladder, rung, table);
+    Inner::Found(last.cut, rounds, rung, last.moves)
+}
+
+// Document 01, the split: checks 1 to 8, then the phases; 9 where no rung can be cut.
+pub fn split(costs: &[u16], starts: &[u16], ends: &[u16], widths: &[u16], k: usize, bound: u32, table: &mut [u16], ladder: &mut [u16]) -> Partitioned
+    ensures { λ r. ⌜ answerOf r ≡ splitOf (graphOf (now (costs .entry)) (now (starts .entry)) (now (ends .entry)) (now (widths .entry))) k bound (now (table .entry)) (now (ladder .entry)) ⌝ }
+    ensures { λ _. ⌜ now (table .exit) ≡ tableAfter (graphOf (now (costs .entry)) (now (starts .entry)) (now (ends .entry)) (now (widths .entry))) k bound (now (table .entry)) (now (ladder .entry)) ⌝ }
+    ensures { λ _. ⌜ now (ladder .exit) ≡ ladderLeft (graphOf (now (costs .entry)) (now (starts .entry)) (now (ends .entry)) (now (widths .entry))) k bound (now (table .entry)) (now (ladder .entry)) ⌝ }
+{
+    let room = enough(costs.len(), table.len(), ladder.len());
+    let checked = validity::check(512, costs, starts, ends, widths, k, bound, room);
+    if let Verdict::Refused(cause, place) = checked {
+        return Partitioned::Failed(cause, place);
+    }
+    match partition(costs, starts, ends, widths, k, bound, table, ladder) {
+        Inner::Found(cut, rounds, rung, moves) => Partitioned::Parted(cut, rounds, rung, moves),
+        Inner::Nothing => Partitioned::Failed(Cause::Uncut, 0),
+    }
+}
