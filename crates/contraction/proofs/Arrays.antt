@@ -1,20 +1,19 @@
 -- The mates of a round's pairs in an array.
-use Prim.Native.Nat.{ℕ, zero, suc, _+_, _≤_, _<_}
-use mathlib.Core.Path.{_≡_, refl, sym, ap, _∙_}
-use mathlib.Core.Bool.{Bool, true, false, _||_}
+use Prim.Native.Nat.{ℕ, _≤_, _<_}
+use mathlib.Core.Path.{_≡_, sym, ap, _∙_}
 use mathlib.Core.List.{List}
 use native.Mathlib.Omega.{arith}
-use lib.Dec.{eqb, ltb}
+use lib.Dec.{ltb}
 use lib.ListN.{length, getD}
 use borrow.Author.Tests.{ltb-true, ltb-false}
-use Rattle.folds.specs.Fold.{pick, countTo, firstTo, listTo, over}
+use Rattle.folds.specs.Fold.{listTo, over}
 use Rattle.folds.proofs.Cases.{by}
 use Rattle.folds.proofs.Searches.{firstTo-ext}
 use Rattle.folds.proofs.Lists.{getD-listTo, length-listTo, listTo-ext}
-use Rattle.graph.specs.Graph.{Arcs, Edge, Inside}
+use Rattle.graph.specs.Graph.{Arcs, Inside}
 use Rattle.graph.specs.Rows.{clusters}
 use Rattle.graph.proofs.Edges.{edge-inside}
-use Rattle.contraction.specs.Rules.{Round, pairAt, Keeps}
+use Rattle.contraction.specs.Rules.{Round, Keeps}
 use Rattle.contraction.specs.Next.{mateOf, together, lowestOf, numbered, joinedRow, mateIn, Mated, Joined}
 use Rattle.contraction.proofs.Mates.{Is, alone, first, second, mate-is, mate-back, keeps-disjoint}
 

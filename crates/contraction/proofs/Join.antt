@@ -7,16 +7,16 @@ use native.Mathlib.Omega.{arith}
 use lib.ListN.{length, getD}
 use Rattle.folds.proofs.Cases.{either}
 use Rattle.graph.specs.Walk.{Acyclic}
-use Rattle.graph.specs.Graph.{Graph, vertices, Arcs, seen, Edge, Formed, RowOf, Inside}
+use Rattle.graph.specs.Graph.{Graph, Arcs, seen, Edge, Formed, RowOf, Inside}
 use Rattle.graph.specs.Rows.{clusters}
 use Rattle.graph.proofs.Walks.{ranks-law}
 use Rattle.graph.proofs.Edges.{arc-edge, edge-arc, edge-other, edge-inside, row-inside}
 use Rattle.topology.specs.Level.{level}
 use Rattle.topology.proofs.Levels.{level-rises, level-from}
-use Rattle.contraction.specs.Rules.{Pair, Round, pairAt, Next, OnlySuccessor, OnlyPredecessor, Keeps}
-use Rattle.contraction.specs.Next.{mateOf, nextRow, Disjoint}
+use Rattle.contraction.specs.Rules.{Round, pairAt, Next, OnlySuccessor, Keeps}
+use Rattle.contraction.specs.Next.{mateOf, nextRow}
 use Rattle.contraction.proofs.Mates.{Is, alone, first, second, mate-is, mate-back, keeps-disjoint}
-use Rattle.contraction.proofs.Next.{Onto, number, next-at, number-mate, number-apart, length-next, below-clusters}
+use Rattle.contraction.proofs.Next.{Onto, number, next-at, number-mate, number-apart}
 
 -- The rank of a cluster of level a whose mate has level b: a + b where the two are neighbours, and else twice the larger.
 -- `far` is a difference of levels, but 0 for 1.

@@ -6,3 +6,4 @@ pub mod Rounds
 pub mod Sizes
 pub mod Naming
 pub mod Arrays
+pub mod Crossed

@@ -1,16 +1,12 @@
 -- The other cluster of a pair.
-use Prim.Native.Nat.{ℕ, zero, suc, _+_, _<_, _≤_}
+use Prim.Native.Nat.{ℕ, zero, suc, _<_}
 use mathlib.Core.Path.{_≡_, refl, sym, ap, _∙_}
-use mathlib.Core.Bool.{Bool, true, false}
-use mathlib.Core.Logic.{_⊎_, inl, inr}
-use mathlib.Core.List.{List, [], _∷_}
+use mathlib.Core.List.{[], _∷_}
 use native.Mathlib.Omega.{arith}
-use lib.Dec.{eqb}
-use lib.ListN.{length, getD}
+use lib.ListN.{length}
 use borrow.Author.Tests.{eq-eqb, ne-eqb}
-use Rattle.folds.specs.Fold.{pick}
 use Rattle.folds.proofs.Cases.{either, eq-or-ne}
-use Rattle.graph.specs.Graph.{Arcs, Edge}
+use Rattle.graph.specs.Graph.{Arcs}
 use Rattle.graph.proofs.Edges.{edge-other}
 use Rattle.contraction.specs.Rules.{Pair, Round, pairAt, Keeps}
 use Rattle.contraction.specs.Next.{mateOf, Disjoint}

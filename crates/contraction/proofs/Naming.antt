@@ -1,21 +1,20 @@
 -- The loop that numbers the groups: a cluster has its number once the lowest vertex of its group is passed.
-use Prim.Native.Nat.{ℕ, zero, suc, _+_, _-_, _≤_, _<_}
+use Prim.Native.Nat.{ℕ, suc, _+_, _≤_, _<_}
 use mathlib.Core.Path.{_≡_, refl, sym, ap, _∙_}
 use mathlib.Core.Bool.{Bool, true, false}
-use mathlib.Core.Logic.{_⊎_, inl, inr}
 use mathlib.Core.List.{List}
 use native.Mathlib.Omega.{arith}
 use lib.Dec.{eqb, ltb}
 use lib.ListN.{length, getD, set, length-set}
 use lib.Seq.{getD-set-same, getD-set-other}
-use borrow.Author.Tests.{eqb-true, eqb-false, eq-eqb, ne-eqb, ltb-true, ltb-false, lt-ltb, le-ltb}
-use Rattle.folds.specs.Fold.{pick, when, countTo, listTo, over, zeros, Filled, Read}
+use borrow.Author.Tests.{eq-eqb, ne-eqb, ltb-true, ltb-false, lt-ltb, le-ltb}
+use Rattle.folds.specs.Fold.{when, countTo, listTo, over, zeros, Filled, Read}
 use Rattle.folds.proofs.Cases.{by, either, eq-or-ne}
 use Rattle.folds.proofs.Sums.{sumTo-zero, countTo-step, countTo-le}
-use Rattle.folds.proofs.Lists.{getD-zeros, length-zeros, listed}
+use Rattle.folds.proofs.Lists.{getD-zeros, listed}
 use Rattle.folds.proofs.Slices.{filled-end}
 use Rattle.contraction.specs.Next.{leads, lowestOf, joinedRow, mateIn, Mated, Short, Named, Joined}
-use Rattle.contraction.proofs.Next.{lowest, number, length-next, next-at, lowest-at, lowest-le, leads-at, number-at, lowest-together, lowest-hit, lowest-mate, lowest-apart, number-mate, next-clusters}
+use Rattle.contraction.proofs.Next.{lowest, number, length-next, next-at, lowest-le, leads-at, number-at, lowest-together, lowest-hit, lowest-mate, lowest-apart, number-mate, next-clusters}
 
 -- after the first v vertices
 pub record Numbering (row : List ℕ) (m : ℕ → ℕ) (v : ℕ) (names : List ℕ) (count : ℕ) : Type 0 where
@@ -29,6 +28,10 @@ numbering-none row m = record { tall = refl; counts = sym (sumTo-zero _); is = �
 
 pub numbering-low : {row : List ℕ} {m : ℕ → ℕ} {v count : ℕ} {names : List ℕ} → Numbering row m v names count → count ≤ v
 numbering-low {row} {m} {v} N = omega (arith, N .counts, countTo-le v (leads (lowestOf row m)))
+
+-- c has no number yet: it and its mate d get the next one
+pub named-new : {mates names : List ℕ} {c d count : ℕ} → d ≡ getD mates c 0 → getD names c 0 ≡ 0 → Named mates c count names (set (set names c (count + 1)) d (count + 1)) (count + 1)
+named-new {mates} {names} {c} e z = let t = eq-eqb (getD names c 0) 0 z in rw e (record { names-are = rw t; count-is = rw t })
 
 mate-at : {mates : List ℕ} {c : ℕ} → Mated mates → c < 512 → mateIn mates c ≡ getD mates c 0
 unfolding mateIn

@@ -1,19 +1,19 @@
 -- The next row: constant exactly on what is joined, onto its numbers, numbered in the order of lowest vertices.
-use Prim.Native.Nat.{ℕ, zero, suc, _+_, _-_, _*_, _<_, _≤_}
+use Prim.Native.Nat.{ℕ, suc, _-_, _<_, _≤_}
 use mathlib.Core.Path.{_≡_, refl, sym, ap, _∙_}
 use mathlib.Core.Bool.{Bool, true, false, _||_}
 use mathlib.Core.Logic.{_⊎_, inl, inr, _↔_}
-use mathlib.Core.List.{List, [], _∷_}
+use mathlib.Core.List.{List}
 use native.Mathlib.Omega.{arith}
 use lib.Dec.{eqb, ltb}
 use lib.ListN.{length, getD}
-use borrow.Author.Tests.{eqb-true, eqb-false, eq-eqb, ne-eqb, ltb-true, ltb-false}
-use Rattle.folds.specs.Fold.{when, sumTo, countTo, firstTo, listTo, maxTo}
+use borrow.Author.Tests.{eqb-true, eq-eqb, ltb-true, ltb-false}
+use Rattle.folds.specs.Fold.{countTo, firstTo, maxTo}
 use Rattle.folds.proofs.Cases.{no-bool, by, either, eq-or-ne, one-of, or-l, or-r}
-use Rattle.folds.proofs.Sums.{sumTo-ext, sumTo-mono, sumTo-swap, sumTo-only, sumTo-add, sumTo-le, countTo-up}
-use Rattle.folds.proofs.Searches.{firstTo-le, firstTo-hit, firstTo-below, firstTo-ext, max-ge, max-at, max-le}
+use Rattle.folds.proofs.Sums.{countTo-up}
+use Rattle.folds.proofs.Searches.{firstTo-hit, firstTo-below, firstTo-ext, max-ge, max-le}
 use Rattle.folds.proofs.Lists.{getD-listTo, length-listTo}
-use Rattle.folds.proofs.Counts.{count-onto, count-inj, count-order, countTo-less}
+use Rattle.folds.proofs.Counts.{count-onto, count-inj, count-order}
 use Rattle.graph.specs.Rows.{clusters}
 use Rattle.contraction.specs.Next.{together, lowestOf, leads, numbered, joinedRow}
 

@@ -1,18 +1,18 @@
 -- Counts and costs of clusters: joining in pairs at most halves the count, and costs are summed.
 use Prim.Native.Nat.{ℕ, zero, suc, _+_, _*_, _<_, _≤_}
-use mathlib.Core.Path.{_≡_, refl, sym, ap, ap₂, _∙_}
-use mathlib.Core.Bool.{Bool, true, false, not, _||_}
-use mathlib.Core.Logic.{_⊎_, inl, inr}
-use mathlib.Core.List.{List, [], _∷_}
+use mathlib.Core.Path.{_≡_, refl, sym, ap, _∙_}
+use mathlib.Core.Bool.{Bool, true, false, not}
+use mathlib.Core.Logic.{_⊎_}
+use mathlib.Core.List.{List}
 use native.Mathlib.Omega.{arith}
 use lib.Dec.{eqb, ltb}
 use lib.ListN.{length, getD}
-use borrow.Author.Tests.{eqb-true, eqb-false, eq-eqb, ne-eqb, ltb-true, ltb-false}
+use borrow.Author.Tests.{eqb-true, eq-eqb, ne-eqb, ltb-true, ltb-false}
 use Rattle.folds.specs.Fold.{when, sumTo, anyTo}
 use Rattle.folds.proofs.Cases.{by, either, eq-or-ne, when-le}
 use Rattle.folds.proofs.Sums.{sumTo-ext, sumTo-mono, sumTo-swap, sumTo-only, sumTo-add, sumTo-le, sumTo-none, sumTo-when}
 use Rattle.folds.proofs.Searches.{any-e, any-none}
-use Rattle.graph.specs.Graph.{Graph, vertices, RowOf, costIn, partCost}
+use Rattle.graph.specs.Graph.{costIn, partCost}
 use Rattle.graph.specs.Rows.{clusters}
 use Rattle.contraction.specs.Next.{joinedRow}
 use Rattle.contraction.proofs.Next.{Onto, number, next-at, number-mate, number-apart, length-next, below-clusters}

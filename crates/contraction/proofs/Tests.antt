@@ -1,17 +1,16 @@
 -- The tests of the join rules say the rules, and the other way round.
-use Prim.Native.Nat.{ℕ, zero, suc, _+_, _<_, _≤_}
+use Prim.Native.Nat.{ℕ, zero, suc, _<_}
 use mathlib.Core.Path.{_≡_, refl, sym, ap, _∙_}
 use mathlib.Core.Bool.{Bool, true, false, not, _&&_, _||_}
-use mathlib.Core.Logic.{_⊎_, inl, inr}
+use mathlib.Core.Logic.{inl, inr}
 use mathlib.Core.List.{List, [], _∷_}
 use native.Mathlib.Omega.{arith}
 use lib.Dec.{eqb}
-use lib.ListN.{length, getD}
-use borrow.Author.Tests.{eqb-true, eqb-false, eq-eqb, ne-eqb}
-use Rattle.folds.specs.Fold.{allTo}
-use Rattle.folds.proofs.Cases.{no-bool, by, either, both, both-i, one-of, or-l, or-r, not-yes, same-test}
+use lib.ListN.{length}
+use borrow.Author.Tests.{eqb-true, eq-eqb}
+use Rattle.folds.proofs.Cases.{no-bool, either, both, both-i, one-of, or-l, or-r, not-yes}
 use Rattle.folds.proofs.Searches.{all-i, all-e}
-use Rattle.graph.specs.Graph.{Arcs, edge, Edge, Inside}
+use Rattle.graph.specs.Graph.{Arcs, edge, Inside}
 use Rattle.graph.proofs.Edges.{edge-inside}
 use Rattle.topology.specs.Level.{levelsOf, level}
 use Rattle.contraction.specs.Rules.{Pair, Round, pairAt, Next, OnlySuccessor, OnlyPredecessor, RuleOne, RuleTwo, Keeps}

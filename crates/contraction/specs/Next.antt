@@ -7,7 +7,7 @@ use lib.Dec.{eqb, ltb}
 use lib.ListN.{length, getD, set}
 use Rattle.folds.specs.Fold.{pick, countTo, firstTo, listTo, over}
 use Rattle.graph.specs.Rows.{clusters}
-use Rattle.contraction.specs.Rules.{Pair, Round, pairAt}
+use Rattle.contraction.specs.Rules.{Round, pairAt}
 
 -- the other cluster of the pair that x is in, or x itself
 unfoldable pub mateOf : Round → ℕ → ℕ

@@ -3,4 +3,5 @@ pub mod Tried
 pub mod Own
 pub mod Climbs
 pub mod Rising
+pub mod Claims
 pub mod Cases

@@ -1,32 +1,34 @@
 -- The hierarchy's own rounds keep the join rules, and what every kept row has.
-use Prim.Native.Nat.{ℕ, zero, suc, _+_, _*_, _<_, _≤_}
-use mathlib.Core.Path.{_≡_, refl, sym, ap, _∙_}
-use mathlib.Core.Bool.{Bool, true, false, not, _&&_}
-use mathlib.Core.List.{List, [], _∷_}
+use Prim.Native.Nat.{ℕ, suc, _+_, _*_, _<_, _≤_}
+use mathlib.Core.Path.{_≡_, sym, ap, _∙_}
+use mathlib.Core.Bool.{true, not}
+use mathlib.Core.List.{List, _∷_}
 use native.Mathlib.Omega.{arith}
-use lib.Dec.{ltb, eqb}
-use lib.ListN.{length, getD, take}
+use lib.Dec.{eqb}
+use lib.ListN.{length, getD}
 use borrow.Author.Tests.{ltb-true, eq-eqb, ne-eqb}
 use Rattle.folds.specs.Fold.{when, sumTo, part}
 use Rattle.folds.proofs.Cases.{either, eq-or-ne, when-le}
 use Rattle.folds.proofs.Sums.{sumTo-only, sumTo-ext}
 use Rattle.graph.specs.Walk.{Acyclic}
-use Rattle.graph.specs.Graph.{Graph, vertices, identity, seen, Edge, Formed, RowOf, costIn, partCost}
+use mathlib.Core.Logic.{_↔_}
+use Rattle.graph.specs.Graph.{Graph, vertices, edges, identity, seen, Edge, Formed, costIn, partCost, cutOf, through}
+use Rattle.graph.specs.Rung.{Rung, rungOf, rungCut, rungCost}
+use Rattle.graph.proofs.Rungs.{rung-cut, rung-cost, rung-edge}
 use Rattle.graph.specs.Rows.{clusters, Hierarchy}
 use Rattle.graph.proofs.Edges.{identity-at}
-use Rattle.contraction.specs.Rules.{Round, pairAt}
+use Rattle.contraction.specs.Rules.{Round}
 use Rattle.contraction.specs.Next.{mateOf, nextRow}
-use Rattle.contraction.specs.Rounds.{rowAfter, AllKeep}
 use Rattle.contraction.proofs.Mates.{Is, alone, first, second, mate-is, mate-back, keeps-disjoint}
-use Rattle.contraction.proofs.Next.{Onto, number, next-at, length-next, next-onto, below-clusters}
+use Rattle.contraction.proofs.Next.{next-at, length-next, next-onto, below-clusters}
 use Rattle.contraction.proofs.Rounds.{Sound, bottom-sound, next-sound, kept-hierarchy, identity-clusters}
 use Rattle.contraction.proofs.Sizes.{next-half, next-cost, costs-sum}
 use Rattle.matching.specs.Choice.{roundOf}
 use Rattle.matching.proofs.Choices.{round-keeps, round-within}
-use Rattle.hierarchy.specs.Climb.{large, poor, above, rowsOf, keptOf, rowOf, droppedOf, flat, ladderAfter}
+use Rattle.hierarchy.specs.Climb.{large, above, rowsOf, keptOf, rowOf, droppedOf, ladderAfter}
 use Rattle.hierarchy.specs.Claim.{OwnRounds}
 use Rattle.hierarchy.proofs.Flat.{over-part}
-use Rattle.hierarchy.proofs.Tried.{Run, run, nextOf, run-keep, run-chosen, run-rows, run-count, run-all, run-few}
+use Rattle.hierarchy.proofs.Tried.{run, nextOf, run-keep, run-chosen, run-rows, run-count, run-all, run-few}
 
 module _ (G : Graph) (k bound : ℕ) (F : Formed G) (ac : Acyclic (Edge (seen G (identity (vertices G))))) where
   abbrev n : ℕ
@@ -134,3 +136,20 @@ module _ (G : Graph) (k bound : ℕ) (F : Formed G) (ac : Acyclic (Edge (seen G 
   rows-hierarchy =
       let (rs, R) = run G k bound 8 bottom in
       hierarchy-ext (run-rows G k bound R) (kept-hierarchy G F ac rs (run-keep G k bound F R (bottom-sound G ac)) (keptOf G k bound))
+
+  -- the rung's own graph is what the row gives: cut and costs of a table over its groups, and its wires
+  module _ (r : ℕ) (l : r ≤ keptOf G k bound) where
+    abbrev own : List ℕ
+    own = rowOf G k bound r
+
+    abbrev rung : Rung
+    rung = rungOf G own (clusters own)
+
+    pub row-cut : (table : List ℕ) → rungCut rung table ≡ cutOf G (through own table)
+    row-cut table = rung-cut G own table (clusters own) F (row-sound r l .row-of)
+
+    pub row-cost : (table : List ℕ) (u : ℕ) → rungCost rung table u ≡ partCost (G .costs) (through own table) u
+    row-cost table u = rung-cost G own table (clusters own) F (row-sound r l .row-of) u
+
+    pub row-edge : ((j : ℕ) → j < edges G → 0 < getD (G .widths) j 0) → (a b : ℕ) → (0 < rung .width a b) ↔ Edge (seen G own) a b
+    row-edge wide a b = rung-edge G own own (clusters own) F (row-sound r l .row-of) wide a b

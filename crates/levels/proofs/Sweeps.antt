@@ -1,5 +1,5 @@
 -- The sweep: an entry is never above its level, and each cluster raises its successors above it.
-use Prim.Native.Nat.{ℕ, zero, suc, _+_, _-_, _≤_, _<_}
+use Prim.Native.Nat.{ℕ, _+_, _-_, _≤_, _<_}
 use mathlib.Core.Path.{_≡_, refl, sym, ap, _∙_}
 use mathlib.Core.Bool.{Bool, true, false}
 use mathlib.Core.Logic.{_⊎_, inl, inr}
@@ -8,12 +8,12 @@ use native.Mathlib.Omega.{arith}
 use lib.Dec.{eqb, ltb}
 use lib.ListN.{length, getD, set, drop, length-set, List·getD-append}
 use lib.Seq.{getD-set-same, getD-set-other, ext-getD, getD-append-add, getD-drop}
-use borrow.Author.Tests.{eqb-true, eqb-false, eq-eqb, ne-eqb, ltb-true, ltb-false, lt-ltb, le-ltb}
+use borrow.Author.Tests.{eq-eqb, ne-eqb, ltb-true, ltb-false}
 use Rattle.folds.specs.Fold.{pick, over, zeros}
 use Rattle.folds.proofs.Cases.{by, either, eq-or-ne}
 use Rattle.folds.proofs.Lists.{getD-past, getD-zeros, length-zeros}
 use Rattle.folds.proofs.Slices.{length-over}
-use Rattle.graph.specs.Graph.{Arcs, edge, Edge}
+use Rattle.graph.specs.Graph.{Arcs, Edge}
 use Rattle.graph.specs.Links.{Linked}
 use Rattle.graph.proofs.Edges.{arc-edge, edge-arc, edge-other, edge-inside}
 use Rattle.graph.proofs.Links.{On}

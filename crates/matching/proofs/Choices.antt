@@ -1,24 +1,22 @@
 -- The chosen pairs keep the join rules, and each costs at most the bound.
 use Prim.Native.Nat.{ℕ, zero, suc, _+_, _<_, _≤_}
-use mathlib.Core.Path.{_≡_, refl, sym, ap, _∙_}
-use mathlib.Core.Bool.{Bool, true, false, _&&_}
-use mathlib.Core.Logic.{_⊎_, inl, inr}
+use mathlib.Core.Path.{_≡_, sym, _∙_}
+use mathlib.Core.Bool.{Bool, true}
 use mathlib.Core.List.{List, [], _∷_}
 use native.Mathlib.Nat.{eq-or-lt-of-le}
 use native.Mathlib.Omega.{arith}
-use lib.Dec.{eqb, leb}
+use lib.Dec.{eqb}
 use lib.ListN.{length, getD}
-use borrow.Author.Tests.{eqb-true, eqb-false, eq-eqb, ne-eqb, leb-true}
-use Rattle.folds.specs.Fold.{pick, when, maxTo, firstTo, listTo}
+use borrow.Author.Tests.{eqb-true, eqb-false, eq-eqb, leb-true}
+use Rattle.folds.specs.Fold.{maxTo, firstTo, listTo}
 use Rattle.folds.proofs.Cases.{no-bool, by, either, both}
-use Rattle.folds.proofs.Searches.{firstTo-le, firstTo-hit, firstTo-below, max-ge, max-at}
+use Rattle.folds.proofs.Searches.{firstTo-le, firstTo-hit, firstTo-below, max-at}
 use Rattle.folds.proofs.Lists.{getD-listTo}
-use Rattle.graph.specs.Graph.{Graph, Arcs, seen, Formed, RowOf, Inside, widthOf, partCost}
+use Rattle.graph.specs.Graph.{Graph, seen, Formed, RowOf, Inside, partCost}
 use Rattle.graph.specs.Rows.{clusters}
 use Rattle.graph.proofs.Edges.{row-inside}
 use Rattle.topology.specs.Level.{levelsOf}
-use Rattle.topology.specs.Order.{orderOf}
-use Rattle.contraction.specs.Rules.{Pair, pair, Round, pairAt, Keeps}
+use Rattle.contraction.specs.Rules.{pair, Round, pairAt, Keeps}
 use Rattle.contraction.specs.Tests.{fits}
 use Rattle.contraction.proofs.Tests.{keeps-none, keeps-more}
 use Rattle.matching.specs.Choice.{mayTake, offer, widest, taken, visit, visits, roundOf}
@@ -89,7 +87,7 @@ module _ (G : Graph) (bound : ℕ) (row : List ℕ) (F : Formed G) (R : RowOf G 
   unfolding roundOf
   chosen =
       let inside = row-inside F R in
-      visits-keep G row (clusters row) bound inside [] (orderOf (seen G row) (clusters row)) (none-kept G row (clusters row) bound inside)
+      visits-keep G row (clusters row) bound inside [] _ (none-kept G row (clusters row) bound inside)
 
   pub round-keeps : Keeps (seen G row) (clusters row) (roundOf G bound row)
   round-keeps = chosen .0

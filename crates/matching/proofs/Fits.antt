@@ -1,29 +1,28 @@
 -- What the arrays say is what the rules say: the offer that a successor makes.
-use Prim.Native.Nat.{ℕ, zero, suc, _+_, _≤_, _<_}
+use Prim.Native.Nat.{ℕ, zero, suc, _≤_, _<_}
 use mathlib.Core.Path.{_≡_, refl, sym, ap, _∙_}
 use mathlib.Core.Bool.{Bool, true, false, not, _&&_, _||_}
 use mathlib.Core.Logic.{_⊎_, inl, inr}
 use mathlib.Core.List.{List, [], _∷_}
 use native.Mathlib.Omega.{arith}
-use lib.Dec.{eqb, ltb, leb}
+use lib.Dec.{eqb}
 use lib.ListN.{length, getD}
-use borrow.Author.Tests.{eqb-true, eqb-false, eq-eqb, ne-eqb, ltb-true, ltb-false, lt-ltb, le-ltb, le-leb, lt-leb}
-use Rattle.folds.specs.Fold.{pick, when, sumTo}
-use Rattle.folds.proofs.Cases.{no-bool, by, either, eq-or-ne, both, both-i, one-of, or-l, or-r, not-yes, not-no}
+use borrow.Author.Tests.{eq-eqb, ne-eqb}
+use Rattle.folds.specs.Fold.{when, sumTo}
+use Rattle.folds.proofs.Cases.{no-bool, by, either, eq-or-ne, both, not-yes, not-no}
 use Rattle.folds.proofs.Sums.{sumTo-ext, sumTo-none, sumTo-mono}
-use Rattle.graph.specs.Graph.{Graph, edges, Arcs, seen, edge, Edge, crossing, widthOf, partCost, Inside}
-use Rattle.graph.proofs.Edges.{arc-edge, edge-arc, edge-other, edge-inside, row-inside}
+use Rattle.graph.specs.Graph.{Arcs, Edge, crossing, widthOf, Inside}
+use Rattle.graph.proofs.Edges.{arc-edge, edge-arc, edge-other}
 use Rattle.graph.specs.Walk.{Acyclic}
-use Rattle.topology.specs.Level.{levelsOf, level}
+use Rattle.topology.specs.Level.{levelsOf}
 use Rattle.contraction.specs.Rules.{Pair, pair, Round, pairAt, Next, OnlySuccessor, RuleOne, RuleTwo, Keeps}
 use Rattle.contraction.specs.Tests.{allOf, fits, keeps}
 use Rattle.contraction.specs.Next.{mateOf}
 use Rattle.contraction.proofs.Tests.{all-of-e, keeps-more, tested-keeps}
-use Rattle.contraction.proofs.Mates.{Is, alone, first, second, mate-is, keeps-disjoint}
+use Rattle.contraction.proofs.Mates.{Is, alone, first, second, mate-is}
 use Rattle.contraction.proofs.Join.{flat-or-only}
-use Rattle.matching.specs.Choice.{mayTake, offer}
-use Rattle.offers.specs.State.{sent, leaves, nextIn, offerIn, offerOf}
-use Rattle.matching.specs.Held.{Ready, anyOf, Holds}
+use Rattle.offers.specs.State.{sent, leaves}
+use Rattle.matching.specs.Held.{anyOf}
 
 -- some pair passes, at an index
 pub any-of-cons : (t : Pair → Bool) (p : Pair) (ps : Round) → anyOf t (p ∷ ps) ≡ (t p || anyOf t ps)

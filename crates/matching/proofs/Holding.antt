@@ -1,22 +1,21 @@
 -- The arrays hold the pairs: at the start, after a pair, and along the order.
-use Prim.Native.Nat.{ℕ, zero, suc, _+_, _*_, _≤_, _<_}
-use mathlib.Core.Path.{_≡_, refl, sym, ap, _∙_}
-use mathlib.Core.Bool.{Bool, true, false, not, _&&_, _||_}
-use mathlib.Core.Logic.{_⊎_, inl, inr}
+use Prim.Native.Nat.{ℕ, _+_, _<_}
+use mathlib.Core.Path.{_≡_, refl, sym, _∙_}
+use mathlib.Core.Bool.{_&&_}
 use mathlib.Core.List.{List, [], _∷_, _++_}
 use native.Mathlib.Omega.{arith}
 use native.Mathlib.Numerals.{add-one}
 use lib.Dec.{eqb}
 use lib.ListN.{length, getD, set, take, length-set}
-use lib.Seq.{getD-set-same, getD-set-other, take-suc, take-all}
-use borrow.Author.Tests.{eqb-true, eqb-false, eq-eqb, ne-eqb}
-use Rattle.folds.specs.Fold.{pick, when, sumTo, listTo, zeros}
-use Rattle.folds.proofs.Cases.{no-bool, by, either, eq-or-ne, both, one-of}
+use lib.Seq.{getD-set-same, getD-set-other, take-suc}
+use borrow.Author.Tests.{eq-eqb, ne-eqb}
+use Rattle.folds.specs.Fold.{when, listTo, zeros}
+use Rattle.folds.proofs.Cases.{no-bool, by, either, eq-or-ne, both}
 use Rattle.folds.proofs.Sums.{sumTo-none}
-use Rattle.folds.proofs.Lists.{getD-listTo, getD-zeros, listed}
-use Rattle.graph.specs.Graph.{Graph, via, Arcs, seen, edge, Edge, partCost, costIn}
+use Rattle.folds.proofs.Lists.{getD-listTo, getD-zeros}
+use Rattle.graph.specs.Graph.{Graph, via, Arcs, edge, Edge, partCost, costIn}
 use Rattle.graph.proofs.Edges.{edge-arc, edge-other}
-use Rattle.contraction.specs.Rules.{Pair, pair, Round, Keeps}
+use Rattle.contraction.specs.Rules.{pair, Round}
 use Rattle.contraction.specs.Tests.{allOf}
 use Rattle.contraction.specs.Next.{mateOf}
 use Rattle.matching.specs.Choice.{visit, visits}

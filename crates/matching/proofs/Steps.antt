@@ -1,30 +1,29 @@
 -- The returns of a visit, and the loop over the order.
-use Prim.Native.Nat.{ℕ, zero, suc, _+_, _*_, _≤_, _<_}
+use Prim.Native.Nat.{ℕ, _+_, _≤_, _<_}
 use mathlib.Core.Path.{_≡_, refl, sym, ap, _∙_}
 use mathlib.Core.Bool.{Bool, true, false}
-use mathlib.Core.Logic.{_⊎_, inl, inr}
-use mathlib.Core.List.{List, [], _∷_}
+use mathlib.Core.List.{List, []}
 use native.Mathlib.Omega.{arith}
 use lib.ListN.{length, getD, set, take, length-set, List·getD-append}
-use lib.Seq.{take-all, length-take-le}
+use lib.Seq.{take-all}
 use Rattle.folds.specs.Fold.{anyTo, listTo, over, zeros}
 use Rattle.folds.proofs.Cases.{either}
 use Rattle.folds.proofs.Lists.{listed, length-listTo, length-zeros}
 use Rattle.folds.proofs.Slices.{length-over}
-use Rattle.graph.specs.Graph.{Graph, graphOf, via, Arcs, arcs, seen, Edge, Inside}
-use Rattle.graph.specs.Links.{Linked, Joins}
+use Rattle.graph.specs.Graph.{Graph, graphOf, Arcs, arcs, seen, Inside}
+use Rattle.graph.specs.Links.{Joins}
 use Rattle.graph.specs.Rows.{clusters}
 use Rattle.graph.proofs.Edges.{row-inside}
-use Rattle.topology.specs.Level.{levelsOf, level}
+use Rattle.topology.specs.Level.{levelsOf}
 use Rattle.topology.specs.Order.{orderOf}
 use Rattle.topology.proofs.Orders.{order-all, order-below}
 use Rattle.levels.specs.Sweep.{Layered, Ordered}
 use Rattle.levels.proofs.Sweeps.{over-level}
-use Rattle.contraction.specs.Rules.{pair, Round, Keeps}
+use Rattle.contraction.specs.Rules.{Round, Keeps}
 use Rattle.contraction.specs.Next.{mateOf}
 use Rattle.offers.specs.State.{Weighed, haltsAt, offerOf, Widest}
 use Rattle.matching.specs.Choice.{visit, visits, roundOf}
-use Rattle.matching.specs.Held.{Ready, Holds, Tall, Context, Chosen, Paired, Visited, Stepped, Matched}
+use Rattle.matching.specs.Held.{Ready, Holds, Tall, Context, Paired, Stepped, Matched}
 use Rattle.matching.proofs.Choices.{Kept, none-kept, visit-kept}
 use Rattle.matching.proofs.Visits.{visit-mated, visit-stopped, visit-keeps, visit-takes}
 use Rattle.matching.proofs.Holding.{holds-none, holds-pair, visits-more, weighed-cost}

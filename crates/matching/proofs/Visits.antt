@@ -1,29 +1,28 @@
 -- One visit: what the loops found is the choice of the definition, and the arrays then hold the pairs with it.
-use Prim.Native.Nat.{ℕ, zero, suc, _+_, _*_, _≤_, _<_}
+use Prim.Native.Nat.{ℕ, _+_, _≤_, _<_}
 use mathlib.Core.Path.{_≡_, refl, sym, ap, _∙_}
 use mathlib.Core.Bool.{Bool, true, false, not, _&&_, _||_}
 use mathlib.Core.Logic.{_⊎_, inl, inr}
-use mathlib.Core.List.{List, [], _∷_}
+use mathlib.Core.List.{List, _∷_}
 use native.Mathlib.Omega.{arith}
 use lib.Dec.{eqb, ltb, leb}
-use lib.ListN.{length, getD, set, length-set}
-use lib.Seq.{getD-set-same, getD-set-other}
-use borrow.Author.Tests.{eqb-true, eqb-false, eq-eqb, ne-eqb, ltb-true, ltb-false, lt-ltb, le-ltb, le-leb, lt-leb}
-use Rattle.folds.specs.Fold.{pick, when, sumTo, maxTo, firstTo, anyTo, listTo}
-use Rattle.folds.proofs.Cases.{no-bool, by, either, eq-or-ne, both, both-i, one-of, not-yes, not-no}
+use lib.ListN.{length, getD}
+use borrow.Author.Tests.{eqb-true, eqb-false, eq-eqb, ne-eqb, ltb-true, ltb-false, le-leb, lt-leb}
+use Rattle.folds.specs.Fold.{pick, when, sumTo, maxTo, anyTo, listTo}
+use Rattle.folds.proofs.Cases.{no-bool, by, either, eq-or-ne, both, both-i, one-of, not-yes}
 use Rattle.folds.proofs.Sums.{sumTo-none}
 use Rattle.folds.proofs.Searches.{max-le, max-ge, firstTo-all, firstTo-found, any-e, any-none}
 use Rattle.folds.proofs.Lists.{getD-listTo}
-use Rattle.graph.specs.Graph.{Graph, edges, Arcs, seen, edge, Edge, crossing, widthOf, partCost, Inside}
+use Rattle.graph.specs.Graph.{Graph, Arcs, seen, edge, Edge, widthOf, partCost, Inside}
 use Rattle.graph.proofs.Edges.{arc-edge, edge-arc, edge-other, edge-inside, row-inside}
-use Rattle.topology.specs.Level.{levelsOf, level}
-use Rattle.contraction.specs.Rules.{Pair, pair, Round, pairAt, Next, Keeps}
+use Rattle.topology.specs.Level.{levelsOf}
+use Rattle.contraction.specs.Rules.{pair, Round, pairAt, Next, Keeps}
 use Rattle.contraction.specs.Tests.{fits}
 use Rattle.contraction.specs.Next.{mateOf}
 use Rattle.matching.specs.Choice.{mayTake, offer, widest, taken, visit}
-use Rattle.offers.specs.State.{Weighed, sent, leaves, nextIn, halts, haltsAt, offerIn, offerOf, Widest, Blocking}
-use Rattle.matching.specs.Held.{Ready, anyOf, Holds, Tall, Context}
-use Rattle.matching.proofs.Fits.{any-of-cons, any-of-e, any-of-none, sent-width, all-only, only-all, Free, fits-free, free-fits}
+use Rattle.offers.specs.State.{sent, leaves, nextIn, halts, haltsAt, offerIn, offerOf, Widest}
+use Rattle.matching.specs.Held.{anyOf, Holds, Context}
+use Rattle.matching.proofs.Fits.{any-of-e, any-of-none, sent-width, all-only, only-all, Free, fits-free, free-fits}
 
 -- without an offer the pairs stay, and with one they get the lowest of the widest
 visit-none : (G : Graph) (row levels : List ℕ) (g bound : ℕ) (ps : Round) (u : ℕ) → ((v : ℕ) → v < g → offer G row levels g bound ps u v ≡ 0) → visit G row levels g bound ps u ≡ ps

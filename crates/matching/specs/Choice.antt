@@ -1,15 +1,15 @@
 -- One round's choice of pairs, as document 01 says it.
 use Prim.Native.Nat.{ℕ, _+_}
-use mathlib.Core.Bool.{Bool, true, false, _&&_}
+use mathlib.Core.Bool.{Bool, _&&_}
 use mathlib.Core.List.{List, [], _∷_}
 use lib.Dec.{eqb, leb}
-use lib.ListN.{length, getD}
+use lib.ListN.{getD}
 use Rattle.folds.specs.Fold.{pick, when, maxTo, firstTo, listTo}
-use Rattle.graph.specs.Graph.{Graph, Arcs, seen, widthOf, partCost}
+use Rattle.graph.specs.Graph.{Graph, seen, widthOf, partCost}
 use Rattle.graph.specs.Rows.{clusters}
 use Rattle.topology.specs.Level.{levelsOf}
 use Rattle.topology.specs.Order.{orderOf}
-use Rattle.contraction.specs.Rules.{Pair, pair, Round}
+use Rattle.contraction.specs.Rules.{pair, Round}
 use Rattle.contraction.specs.Tests.{fits}
 
 -- on a row with the levels `levels` of its g clusters and a bound on a cluster's cost

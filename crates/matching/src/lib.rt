@@ -83,6 +83,7 @@ fn pairs(costs: &[u16], row: &[u16], starts: &[u16], ends: &[u16], widths: &[u16
     let mut head = [0u16; 512];
     let mut next = [0u16; 1024];
     let mut weights = [0; 512];
+    // The ends of pairs, and what rule 2 keeps from becoming one.
     let mut tos = [0; 512];
     let mut blocked = [0; 512];
     let mut sums = [0; 512];

@@ -1,19 +1,19 @@
 -- The loops over the edges of a cluster: what each turn does to the arrays.
-use Prim.Native.Nat.{ℕ, zero, suc, _+_, _-_, _*_, _≤_, _<_}
+use Prim.Native.Nat.{ℕ, _+_, _-_, _*_, _≤_, _<_}
 use mathlib.Core.Path.{_≡_, refl, sym, ap, _∙_}
-use mathlib.Core.Bool.{Bool, true, false, not, _&&_, _||_}
+use mathlib.Core.Bool.{Bool, true, false, _||_}
 use mathlib.Core.Logic.{_⊎_, inl, inr}
 use mathlib.Core.List.{List}
 use native.Mathlib.Omega.{arith}
 use lib.Dec.{eqb, ltb}
 use lib.ListN.{length, getD, set, length-set}
 use lib.Seq.{getD-set-same, getD-set-other, ext-getD}
-use borrow.Author.Tests.{eqb-true, eqb-false, eq-eqb, ne-eqb, ltb-true, ltb-false, lt-ltb, le-ltb}
-use Rattle.folds.specs.Fold.{pick, when, sumTo, zeros, Read}
-use Rattle.folds.proofs.Cases.{by, either, eq-or-ne, when-zero, same-test}
+use borrow.Author.Tests.{eqb-true, eq-eqb, ne-eqb, ltb-true, ltb-false, lt-ltb, le-ltb}
+use Rattle.folds.specs.Fold.{pick, when, zeros, Read}
+use Rattle.folds.proofs.Cases.{by, either, eq-or-ne, same-test}
 use Rattle.folds.proofs.Sums.{sumTo-zero, sumTo-turn}
 use Rattle.folds.proofs.Lists.{getD-zeros, length-zeros, set-add, set-at-most}
-use Rattle.graph.specs.Graph.{Arcs, edge, Edge, crossing}
+use Rattle.graph.specs.Graph.{Arcs, crossing}
 use Rattle.graph.specs.Links.{Linked}
 use Rattle.graph.proofs.Edges.{arc-edge}
 use Rattle.graph.proofs.Links.{On, Only, Finds, walk-less, sum-on, sum-next}

@@ -1,7 +1,6 @@
+use Rattle.contraction.proofs.Naming.{named-new}
 use borrow.Author.Needs.{needs}
-use mathlib.Core.Path.{_≡_, refl, sym, ap, _∙_}
 use native.Mathlib.Omega.{arith}
-use Prim.Native.Nat.{ℕ, _≤_, _<_, _-_, _+_}
 use Rattle.folds.proofs.Cases.{cases}
 use Rattle.contraction.proofs.name.Statement.{statement}
 use Rattle.contraction.proofs.name.Tie as tie
@@ -23,4 +22,4 @@ name-spec =
     (λ c. search needs)
     (λ c. omega (arith, c .wide .ensures, c .before .before .before .before .pre .0 .0 .low (c .before .before .before .before .args .c) (c .before .before .before .before .pre .0 .1)))
     (λ c. omega (arith, c .wide .ensures, c .before .before .before .before .pre .0 .0 .low (c .before .before .before .before .args .c) (c .before .before .before .before .pre .0 .1)))
-    (λ c. rw (c .wide .ensures) (record { names-are = search cases; count-is = search cases })))
+    (λ c. named-new (c .wide .ensures) (c .before .before .if1 .left)))

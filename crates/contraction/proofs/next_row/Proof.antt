@@ -1,14 +1,13 @@
 use Rattle.contraction.proofs.Naming.{Numbering, numbering-none, numbering-low, name-turn, name-at, cluster-low, joined-end}
 use Rattle.contraction.proofs.Next.{number}
-use Rattle.contraction.specs.Next.{mateIn, Named}
+use Rattle.contraction.specs.Next.{mateIn}
 use Rattle.folds.specs.Fold.{Filled, zeros}
 use Rattle.folds.proofs.Slices.{filled-none, filled-turn}
 use lib.ListN.{length, getD, length-set}
 use borrow.Author.Needs.{needs}
-use mathlib.Core.Path.{_≡_, refl, sym, ap, _∙_}
+use mathlib.Core.Path.{_≡_, _∙_}
 use native.Mathlib.Omega.{arith}
-use Prim.Native.Nat.{ℕ, _≤_, _<_, _-_, _+_}
-use Rattle.folds.proofs.Cases.{cases}
+use Prim.Native.Nat.{ℕ, _≤_, _-_}
 use Rattle.contraction.proofs.next_row.Statement.{statement}
 use Rattle.contraction.proofs.next_row.Tie as tie
 

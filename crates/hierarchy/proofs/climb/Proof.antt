@@ -1,10 +1,8 @@
 use Rattle.hierarchy.proofs.Climbs.{place-low, handed-tall, taken-low}
-use Rattle.hierarchy.proofs.Climbs.{rows-in, row-handed, climbed-small, climbed-poor, climbed-kept, length-taken}
-use Rattle.folds.specs.Fold.{zeros}
-use lib.ListN.{length, take, drop}
-use Prim.Native.Nat.{ℕ, _+_, _*_, _-_}
+use Rattle.hierarchy.proofs.Climbs.{rows-in, row-handed, climbed-small, climbed-poor, climbed-kept}
+use lib.ListN.{length}
 use native.Mathlib.Omega.{arith}
-use mathlib.Core.Path.{_≡_, refl, sym, ap, _∙_}
+use mathlib.Core.Path.{refl}
 use borrow.Author.Needs.{needs}
 use Rattle.hierarchy.proofs.climb.Statement.{statement}
 use Rattle.hierarchy.proofs.climb.Tie as tie
@@ -14,7 +12,7 @@ climb-spec =
     tie.close
     (tie.spec
     (λ c. search needs)
-    (λ c. climbed-small _ _ _ _ _ _ (c .before .before .before .before .before .before .pre .0) (c .if1 .taken))
+    (λ c. climbed-small _ _ _ _ _ _ (c .before .before .before .before .before .before .pre .0) (omega (arith, c .if1 .taken)))
     (λ c. let s = c .before .before .before .before .before .before in omega (arith, rows-in (s .args .r) (length (s .args .costs .now)) (length (s .args .ladder .now)) (s .pre .1 .0 .0) (s .pre .1 .1)))
     (λ c. let s = c .before .before .before .before .before .before in omega (arith, rows-in (s .args .r) (length (s .args .costs .now)) (length (s .args .ladder .now)) (s .pre .1 .0 .0) (s .pre .1 .1)))
     (λ c. let s = c .before .before .before .before .before .before in omega (arith, rows-in (s .args .r) (length (s .args .costs .now)) (length (s .args .ladder .now)) (s .pre .1 .0 .0) (s .pre .1 .1)))

@@ -2,8 +2,8 @@ use lib.ListN.{take}
 use Rattle.folds.specs.Fold.{Filled}
 use Rattle.folds.proofs.Lists.{listTo-getD}
 use Rattle.folds.proofs.Slices.{filled-none, filled-turn, filled-all}
-use Prim.Native.Nat.{ℕ, _≤_, _<_, _-_, _+_, _*_}
-use mathlib.Core.Path.{_≡_, refl, sym, ap, _∙_}
+use Prim.Native.Nat.{ℕ, _≤_, _-_}
+use mathlib.Core.Path.{_≡_, refl, ap, _∙_}
 use native.Mathlib.Omega.{arith}
 use lib.ListN.{length, getD, length-set}
 use borrow.Author.Needs.{needs}

@@ -1,10 +1,10 @@
 use Rattle.graph.specs.Graph.{identity}
 use Rattle.folds.specs.Fold.{Filled}
 use Rattle.folds.proofs.Slices.{filled-none, filled-turn, filled-all}
-use Prim.Native.Nat.{ℕ, _≤_, _<_, _-_, _+_, _*_}
-use mathlib.Core.Path.{_≡_, refl, sym, ap, _∙_}
+use Prim.Native.Nat.{ℕ, _≤_, _-_}
+use mathlib.Core.Path.{_≡_, refl}
 use native.Mathlib.Omega.{arith}
-use lib.ListN.{length, getD, length-set}
+use lib.ListN.{length, length-set}
 use borrow.Author.Needs.{needs}
 use Rattle.hierarchy.proofs.first_row.Statement.{statement}
 use Rattle.hierarchy.proofs.first_row.Tie as tie

@@ -1,5 +1,4 @@
 use Rattle.hierarchy.proofs.Climbs.{tried-mated, ready-short, tried-round}
-use mathlib.Core.Path.{_≡_, refl, sym, ap, _∙_}
 use borrow.Author.Needs.{needs}
 use Rattle.hierarchy.proofs.try_round.Statement.{statement}
 use Rattle.hierarchy.proofs.try_round.Tie as tie

@@ -1,12 +1,12 @@
 use Rattle.levels.proofs.Sweeps.{raised-none, raised-turn, level-less}
 use Rattle.levels.specs.Sweep.{Raised}
-use Rattle.graph.proofs.Links.{On, walk-on, walk-next, walk-less, on-end, joined-ends}
+use Rattle.graph.proofs.Links.{On, walk-on, walk-next, walk-less, on-end}
 use Rattle.graph.specs.Graph.{via, arcs}
 use Rattle.topology.specs.Level.{level}
 use lib.ListN.{length}
 use native.Mathlib.Omega.{arith}
-use mathlib.Core.Path.{_≡_, refl, sym, _∙_}
-use Prim.Native.Nat.{ℕ, _≤_, _<_, _-_, _+_}
+use mathlib.Core.Path.{_≡_, refl}
+use Prim.Native.Nat.{_-_, _+_}
 use borrow.Author.Needs.{needs}
 use Rattle.levels.proofs.raise.Statement.{statement}
 use Rattle.levels.proofs.raise.Tie as tie

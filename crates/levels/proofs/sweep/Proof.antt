@@ -4,8 +4,7 @@ use Rattle.graph.specs.Graph.{via, arcs}
 use Rattle.folds.specs.Fold.{zeros}
 use lib.ListN.{length}
 use native.Mathlib.Omega.{arith}
-use mathlib.Core.Path.{_≡_, refl, sym, _∙_}
-use Prim.Native.Nat.{ℕ, _≤_, _<_, _-_, _+_}
+use Prim.Native.Nat.{_≤_, _-_}
 use borrow.Author.Needs.{needs}
 use Rattle.levels.proofs.sweep.Statement.{statement}
 use Rattle.levels.proofs.sweep.Tie as tie

@@ -1,10 +1,5 @@
 use Rattle.matching.proofs.Holding.{widths-sparse, offers-same, to-small}
 use Rattle.offers.proofs.Loops.{widest-ext}
-use Rattle.offers.specs.State.{offerOf}
-use Prim.Native.Nat.{ℕ}
-use native.Mathlib.Omega.{arith}
-use mathlib.Core.Path.{_≡_, refl, sym, ap, _∙_}
-use borrow.Author.Needs.{needs}
 use Rattle.matching.proofs.best_for.Statement.{statement}
 use Rattle.matching.proofs.best_for.Tie as tie
 

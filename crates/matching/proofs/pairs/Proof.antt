@@ -1,12 +1,12 @@
 use Rattle.folds.specs.Fold.{zeros}
-use Rattle.graph.specs.Graph.{graphOf, via, arcs}
+use Rattle.graph.specs.Graph.{graphOf, via}
 use Rattle.graph.specs.Links.{Linked}
 use Rattle.offers.specs.State.{Weighed}
 use Rattle.matching.proofs.Steps.{Rounding, rounding-none, rounding-turn, rounding-end, order-low, ready-joins, round-context, weights-low, ready-weigh}
-use Prim.Native.Nat.{ℕ, _≤_, _<_, _-_, _+_, _*_}
-use mathlib.Core.Path.{_≡_, refl, sym, ap, _∙_}
+use Prim.Native.Nat.{_≤_, _-_}
+use mathlib.Core.Path.{refl}
 use native.Mathlib.Omega.{arith}
-use lib.ListN.{length, getD, length-set}
+use lib.ListN.{length}
 use borrow.Author.Needs.{needs}
 use Rattle.matching.proofs.pairs.Statement.{statement}
 use Rattle.matching.proofs.pairs.Tie as tie

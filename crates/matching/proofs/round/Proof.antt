@@ -1,7 +1,5 @@
 use Rattle.matching.proofs.Steps.{ready-joins, ready-layered, round-ordered}
 use Rattle.folds.specs.Fold.{zeros}
-use native.Mathlib.Omega.{arith}
-use mathlib.Core.Path.{_≡_, refl, sym, ap, _∙_}
 use borrow.Author.Needs.{needs}
 use Rattle.matching.proofs.round.Statement.{statement}
 use Rattle.matching.proofs.round.Tie as tie

@@ -1,10 +1,10 @@
 use Rattle.folds.specs.Fold.{zeros}
 use Rattle.folds.proofs.Slices.{filled-none, filled-turn, filled-all}
-use Rattle.folds.specs.Fold.{listTo, Filled}
-use Prim.Native.Nat.{ℕ, _≤_, _<_, _-_, _+_, _*_}
-use mathlib.Core.Path.{_≡_, refl, sym, ap, _∙_}
+use Rattle.folds.specs.Fold.{Filled}
+use Prim.Native.Nat.{ℕ, _≤_, _-_}
+use mathlib.Core.Path.{_≡_, refl, _∙_}
 use native.Mathlib.Omega.{arith}
-use lib.ListN.{length, getD, length-set}
+use lib.ListN.{length, length-set}
 use borrow.Author.Needs.{needs}
 use Rattle.matching.proofs.singles.Statement.{statement}
 use Rattle.matching.proofs.singles.Tie as tie

@@ -1,6 +1,4 @@
 use Rattle.matching.proofs.Steps.{stepped-mated, stepped-stopped, stepped-none, widest-low, stepped-pair}
-use native.Mathlib.Omega.{arith}
-use mathlib.Core.Path.{_≡_, refl, sym, ap, _∙_}
 use borrow.Author.Needs.{needs}
 use Rattle.matching.proofs.visit.Statement.{statement}
 use Rattle.matching.proofs.visit.Tie as tie

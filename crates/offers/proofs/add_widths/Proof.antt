@@ -1,11 +1,11 @@
 use Rattle.graph.specs.Graph.{via, arcs}
-use Rattle.graph.proofs.Links.{On, walk-on, walk-next, walk-less, on-end, joined-ends}
+use Rattle.graph.proofs.Links.{On, walk-on, walk-next, walk-less, on-end}
 use Rattle.offers.specs.State.{Widths}
 use Rattle.offers.proofs.Loops.{widths-none, widths-turn}
-use Prim.Native.Nat.{ℕ, _≤_, _<_, _-_, _+_, _*_}
-use mathlib.Core.Path.{_≡_, refl, sym, ap, _∙_}
+use Prim.Native.Nat.{_-_}
+use mathlib.Core.Path.{_≡_, refl}
 use native.Mathlib.Omega.{arith}
-use lib.ListN.{length, getD, length-set}
+use lib.ListN.{length}
 use borrow.Author.Needs.{needs}
 use Rattle.offers.proofs.add_widths.Statement.{statement}
 use Rattle.offers.proofs.add_widths.Tie as tie
@@ -28,7 +28,7 @@ add-widths-spec =
     (λ c κs. search needs)
     (λ c. search needs)
     (λ c. search needs)
-    (λ c. let l = c .before .before .before .before .loop in omega (arith, l .inv .2 .low (c .before .before .cluster .result), l .inv .1 .within, c .before .crossing .ensures .low, c .before .before .before .before .before .before .before .before .before .before .before .pre .0 .out .few))
+    (λ c. let l = c .before .before .before .before .loop in omega (arith, l .inv .2 .low (c .before .before .cluster .result), l .inv .2 .low (c .before .before .before .before .before .before .before .before .before .before .before .args .u), l .inv .1 .within, c .before .crossing .ensures .low, c .before .before .before .before .before .before .before .before .before .before .before .pre .0 .out .few))
     (λ c. search needs)
     (λ c. search needs)
     (λ c. let l = c .before .before .before .before .loop in omega (arith, l .inv .2 .low-all, l .inv .1 .within, c .before .crossing .ensures .low, c .before .before .before .before .before .before .before .before .before .before .before .pre .0 .out .few))

@@ -1,11 +1,11 @@
 use Rattle.graph.specs.Graph.{via, arcs}
-use Rattle.graph.proofs.Links.{On, walk-on, walk-next, walk-less, on-end, joined-ends}
+use Rattle.graph.proofs.Links.{On, walk-on, walk-next, walk-less, on-end}
 use Rattle.offers.specs.State.{Blocking}
 use Rattle.offers.proofs.Loops.{blocking-none, blocking-turn}
-use Prim.Native.Nat.{ℕ, _≤_, _<_, _-_, _+_, _*_}
-use mathlib.Core.Path.{_≡_, refl, sym, ap, _∙_}
+use Prim.Native.Nat.{_-_}
+use mathlib.Core.Path.{_≡_, refl}
 use native.Mathlib.Omega.{arith}
-use lib.ListN.{length, getD, length-set}
+use lib.ListN.{length}
 use borrow.Author.Needs.{needs}
 use Rattle.offers.proofs.block.Statement.{statement}
 use Rattle.offers.proofs.block.Tie as tie

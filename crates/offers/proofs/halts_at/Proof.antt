@@ -1,6 +1,5 @@
 use Rattle.offers.specs.State.{halts}
 use borrow.Author.Tests.{eq-eqb, ne-eqb}
-use Rattle.folds.proofs.Cases.{cases}
 use borrow.Author.Needs.{needs}
 use Rattle.offers.proofs.halts_at.Statement.{statement}
 use Rattle.offers.proofs.halts_at.Tie as tie

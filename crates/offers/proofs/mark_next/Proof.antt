@@ -1,5 +1,5 @@
 use Rattle.offers.specs.State.{blockedOf}
-use mathlib.Core.Path.{_≡_, refl, sym, ap, _∙_}
+use mathlib.Core.Path.{sym, _∙_}
 use Rattle.folds.proofs.Cases.{cases}
 use borrow.Author.Needs.{needs}
 use Rattle.offers.proofs.mark_next.Statement.{statement}

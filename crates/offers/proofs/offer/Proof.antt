@@ -1,5 +1,4 @@
 use Rattle.offers.proofs.Loops.{offer-mated, offer-blocked, offer-dear, offer-near, offer-far}
-use mathlib.Core.Path.{_≡_, refl, sym, ap, _∙_}
 use native.Mathlib.Omega.{arith}
 use borrow.Author.Needs.{needs}
 use Rattle.offers.proofs.offer.Statement.{statement}

@@ -1,13 +1,13 @@
 use Rattle.graph.specs.Graph.{via, arcs}
-use Rattle.graph.proofs.Links.{On, walk-on, walk-next, walk-less, on-end, joined-ends, first-on, first-next}
+use Rattle.graph.proofs.Links.{On, walk-on, walk-next, walk-less, first-on, first-next}
 use Rattle.folds.proofs.Searches.{anyTo-at, anyTo-end}
 use Rattle.folds.specs.Fold.{firstTo}
 use Rattle.offers.specs.State.{haltsAt}
 use Rattle.offers.proofs.Loops.{halts-finds, halts-here}
-use Prim.Native.Nat.{ℕ, _≤_, _<_, _-_, _+_, _*_}
-use mathlib.Core.Path.{_≡_, refl, sym, ap, _∙_}
+use Prim.Native.Nat.{_-_}
+use mathlib.Core.Path.{_≡_, refl, sym, _∙_}
 use native.Mathlib.Omega.{arith}
-use lib.ListN.{length, getD, length-set}
+use lib.ListN.{length}
 use borrow.Author.Needs.{needs}
 use Rattle.offers.proofs.stops.Statement.{statement}
 use Rattle.offers.proofs.stops.Tie as tie

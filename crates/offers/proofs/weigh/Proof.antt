@@ -1,10 +1,10 @@
 use Rattle.folds.specs.Fold.{zeros}
 use Rattle.offers.specs.State.{Weighed}
 use Rattle.offers.proofs.Loops.{weighed-none, weighed-turn}
-use Prim.Native.Nat.{ℕ, _≤_, _<_, _-_, _+_, _*_}
-use mathlib.Core.Path.{_≡_, refl, sym, ap, _∙_}
+use Prim.Native.Nat.{_≤_, _-_}
+use mathlib.Core.Path.{_≡_}
 use native.Mathlib.Omega.{arith}
-use lib.ListN.{length, getD, length-set}
+use lib.ListN.{length}
 use borrow.Author.Needs.{needs}
 use Rattle.offers.proofs.weigh.Statement.{statement}
 use Rattle.offers.proofs.weigh.Tie as tie

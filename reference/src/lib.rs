@@ -1,0 +1,91 @@
+//! An acyclic graph partitioner by document 01: joining, first cut, moves.
+//!
+//! Document 01's blocks, wires, groups and stages are vertices, edges, clusters and parts
+//! here. Its rungs are the levels of a hierarchy.
+
+pub mod check;
+pub mod coarsen;
+pub mod damage;
+pub mod digest;
+pub mod generate;
+pub mod graph;
+pub mod initial;
+pub mod inspect;
+pub mod refine;
+pub mod text;
+
+pub use check::Refusal;
+pub use inspect::inspect;
+pub use text::{read_kit, Kit};
+
+use check::{check, refuse, Lists};
+use coarsen::{hierarchy, Level};
+
+/// What a split answers beside the two tables.
+#[derive(Clone, Copy, Debug, PartialEq, Eq)]
+pub struct Split {
+    pub cut: u64,
+    /// Rounds kept.
+    pub rounds: u32,
+    /// The rung that was cut.
+    pub rung: u32,
+    pub moves: u32,
+}
+
+/// Splits a kit: writes the stage table (`parts`) and the ladder.
+#[allow(clippy::too_many_arguments)]
+pub fn split(
+    costs: &[u16],
+    starts: &[u16],
+    ends: &[u16],
+    widths: &[u16],
+    k: u32,
+    bound: u32,
+    parts: &mut [u16],
+    ladder: &mut [u16],
+) -> Result<Split, Refusal> {
+    let room = |n| parts.len() >= n && ladder.len() >= 9 * n;
+    let (graph, order) = check(Lists { costs, starts, ends, widths }, k, bound, room)?;
+    let k = k as usize;
+    let levels = hierarchy(graph, order, k, bound);
+    write_rows(&levels, costs.len(), ladder);
+
+    let cut_level = |(rung, level): (usize, &Level)| {
+        let (part, cut) = initial::first_cut(&level.graph, &level.order, k, bound)?;
+        Some((rung, part, cut))
+    };
+    let Some((rung, part, mut cut)) = levels.iter().enumerate().rev().find_map(cut_level) else {
+        return refuse(9, 0);
+    };
+
+    let mut loads = vec![0; k];
+    for (&p, &weight) in part.iter().zip(&levels[rung].graph.weights) {
+        loads[p as usize] += weight;
+    }
+    let mut part = part;
+    let mut moves = 0;
+    for (below, level) in levels[..=rung].iter().enumerate().rev() {
+        if below < rung {
+            part = level.cluster.iter().map(|&c| part[c as usize]).collect();
+        }
+        refine::refine(&level.graph, &mut part, &mut loads, bound, |step, _| {
+            moves += 1;
+            cut -= step.gain as u64;
+        });
+    }
+    parts[..part.len()].copy_from_slice(&part);
+    Ok(Split { cut, rounds: levels.len() as u32 - 1, rung: rung as u32, moves })
+}
+
+/// Row r of the ladder holds the cluster of each block on rung r.
+fn write_rows(levels: &[Level], n: usize, ladder: &mut [u16]) {
+    for (b, entry) in ladder[..n].iter_mut().enumerate() {
+        *entry = b as u16;
+    }
+    for rung in 1..levels.len() {
+        for b in 0..n {
+            let below = ladder[(rung - 1) * n + b] as usize;
+            ladder[rung * n + b] = levels[rung - 1].cluster[below];
+        }
+    }
+}
