@@ -1,0 +1,4 @@
+pub mod Entries
+pub mod Buffer
+pub mod Saved
+pub mod Claims

@@ -1,0 +1,17 @@
+use borrow.Author.Needs.{needs}
+use native.Mathlib.Omega.{arith}
+use Rattle.line_forms.specs.Form.{printedFields, printed}
+use Rattle.answer_text.proofs.put_refusal.Statement.{statement}
+use Rattle.answer_text.proofs.put_refusal.Tie as tie
+
+pub put-refusal-spec : {M : Type 1} → statement M
+unfolding printed printedFields
+put-refusal-spec =
+    tie.close
+    (tie.spec
+    (λ c. search needs)
+    (λ c. search needs)
+    (λ c. search needs)
+    (λ c κs. omega (arith, c .before .before .before .before .before .pre))
+    (λ c. search needs)
+    (λ c. c .before .before .put-two .ensures))

@@ -1,0 +1,4 @@
+pub mod Forms
+pub mod Kit
+pub mod Grammar
+pub mod Scan

@@ -1,0 +1,6 @@
+pub mod Form
+pub mod Lines
+pub mod Steps
+pub mod Rows
+pub mod Stand
+pub mod Answer

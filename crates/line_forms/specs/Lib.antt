@@ -1,0 +1,5 @@
+pub mod Form
+pub mod Lines
+pub mod Read
+pub mod Answer
+pub mod Stand
