@@ -37,7 +37,7 @@ module _ (need : ℕ) (text buf : List ℕ) where
 
 -- a head line and the lines of a table
 module _ (head : Form) (vs word entries : List ℕ) where
-  table-needs : tableNeeds head vs word entries ≡ length (tableText head vs word entries)
+  pub table-needs : tableNeeds head vs word entries ≡ length (tableText head vs word entries)
   unfolding tableNeeds tableText
   table-needs = rw (needs-are head vs, needs-all (entryForm word) (enumerated 0 entries)) (sym (length-append (printed head vs) (printedAll (entryForm word) (enumerated 0 entries))))
 

@@ -12,7 +12,7 @@ use lib.ListN.{length, getD, drop, drop-of-length-le}
 use borrow.Author.Tests.{lt-ltb, le-ltb, le-leb, eq-eqb, ltb-true, ltb-false, eqb-true}
 use Rattle.folds.specs.Fold.{over}
 use Rattle.folds.proofs.Cases.{no-bool, by, and-false}
-use Rattle.folds.proofs.Extra.{chose}
+use Rattle.folds.proofs.Cases.{chose}
 use Rattle.decimal.specs.Decimal.{numbers, numbersIn}
 use Rattle.line_forms.specs.Form.{Field, printedFields, printed, fits, same, asForm}
 use Rattle.line_forms.specs.Lines.{linesOf, leading, inOrder, numbered, column}

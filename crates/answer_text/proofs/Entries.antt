@@ -5,7 +5,8 @@ use mathlib.Core.List.{List, [], _∷_, _++_, append-assoc, append-nil}
 use native.Mathlib.Numerals.{add-one}
 use native.Mathlib.Omega.{arith}
 use lib.ListN.{length, getD, drop, length-append, drop-of-length-le}
-use Rattle.folds.proofs.Extra.{left-cons, put-none}
+use Rattle.folds.proofs.Lists.{left-cons}
+use Rattle.folds.proofs.Parts.{put-none}
 use Rattle.decimal.specs.Write.{Puts}
 use Rattle.decimal.proofs.Writing.{puts-then, puts-length, room-then}
 use Rattle.line_forms.specs.Form.{Form, printed, printedAll, needs, needsAll}

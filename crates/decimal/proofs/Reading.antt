@@ -6,7 +6,7 @@ use mathlib.Core.List.{List, []}
 use lib.ListN.{length, getD, drop, drop-of-length-le}
 use borrow.Author.Tests.{eq-eqb, ne-eqb, lt-ltb, le-ltb, not-true, not-false}
 use Rattle.folds.specs.Fold.{pick}
-use Rattle.folds.proofs.Extra.{left-cons}
+use Rattle.folds.proofs.Lists.{left-cons}
 use Rattle.decimal.specs.Read.{moreOf, numberOf, startsOf}
 use Rattle.decimal.specs.declared.Number.{Number}
 use Rattle.decimal.specs.declared.Number.the-variants.{Is, Not}

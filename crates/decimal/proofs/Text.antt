@@ -12,7 +12,7 @@ use lib.Seq.{append-snoc, drop-drop, drop-at}
 use borrow.Author.Tests.{eq-eqb, ne-eqb, lt-ltb, le-ltb, le-leb, lt-leb, ltb-true, ltb-false, leb-false, eqb-true, eqb-false}
 use Rattle.folds.specs.Fold.{pick}
 use Rattle.folds.proofs.Cases.{no-bool, by}
-use Rattle.folds.proofs.Extra.{chose}
+use Rattle.folds.proofs.Cases.{chose}
 use Rattle.decimal.specs.Decimal.{digits, decimal, digit, numbers, numbersIn}
 use Rattle.decimal.specs.Read.{moreOf, numberOf, startsOf, fieldOf}
 use Rattle.decimal.specs.declared.Number.the-variants.{Is, Not}

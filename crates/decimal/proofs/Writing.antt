@@ -6,7 +6,7 @@ use native.Mathlib.Omega.{arith}
 use lib.ListN.{length, set, take, length-append}
 use Rattle.folds.specs.Fold.{put}
 use Rattle.folds.proofs.Slices.{length-put}
-use Rattle.folds.proofs.Extra.{put-none, put-more, put-put, copy-end}
+use Rattle.folds.proofs.Parts.{put-none, put-more, put-put, copy-end}
 use Rattle.decimal.specs.Decimal.{digits, decimal}
 use Rattle.decimal.specs.Write.{Puts, Width}
 use Rattle.decimal.proofs.Text.{decimal-one, decimal-long, decimal-mono, length-one, length-long}

@@ -33,8 +33,8 @@ unfoldable pub numbers : Bool → ℕ → List ℕ → List ℕ
 numbers o v [] = pick o (v ∷ []) []
 numbers o v (b ∷ s) =
     elim (digit b) [
-      true ↦ numbers true (v * 10 + (b - 48)) s
-    | false ↦ pick o (v ∷ []) [] ++ numbers false 0 s
+      | true ↦ numbers true (v * 10 + (b - 48)) s
+      | false ↦ pick o (v ∷ []) [] ++ numbers false 0 s
     ]
 
 unfoldable pub numbersIn : List ℕ → List ℕ

@@ -151,3 +151,8 @@ mark-yes {t = false} e n = absurd (n e)
 pub mark-no : {t : Bool} {x : ℕ} → x ≡ when t 1 → x ≡ 0 → t ≡ false
 mark-no {t = true} e z = absurd (omega arith)
 mark-no {t = false} e z = refl
+
+-- a choice that came out as x
+pub chose : {A : Type 0} (t : Bool) (a b x : A) → pick t a b ≡ x → ((t ≡ true) × (a ≡ x)) ⊎ ((t ≡ false) × (b ≡ x))
+chose true a b x e = inl (refl, e)
+chose false a b x e = inr (refl, e)

@@ -7,7 +7,7 @@ use lib.Dec.{eqb, ltb}
 use borrow.Author.Tests.{ltb-true, ltb-false, eqb-true}
 use Rattle.folds.specs.Fold.{when, sumTo, countTo}
 use Rattle.folds.proofs.Cases.{by, either, one-of}
-use Rattle.folds.proofs.Sums.{sumTo-less, sumTo-mono, sumTo-add, sumTo-only, countTo-up}
+use Rattle.folds.proofs.Sums.{sumTo-none, sumTo-skip, sumTo-less, sumTo-mono, sumTo-add, sumTo-only, countTo-up}
 
 pub countTo-less : (j n : ℕ) (p : ℕ → Bool) → j ≤ n → countTo j p ≤ countTo n p
 unfolding countTo
@@ -32,3 +32,16 @@ count-inj a b p s t e =
 -- the counts come in the order of what is counted
 pub count-order : (a b : ℕ) (p : ℕ → Bool) → countTo a p < countTo b p → a < b
 count-order a b p h = by (ltb a b) (λ l. ltb-true a b l) (λ l. absurd (omega (arith, countTo-less b a p (ltb-false a b l))))
+
+-- none below a, then n in a row
+pub count-run : (p : ℕ → Bool) (a n : ℕ) → ((q : ℕ) → q < a → p q ≡ false) → ((q : ℕ) → a ≤ q → q < a + n → p q ≡ true) → countTo (a + n) p ≡ n
+unfolding countTo sumTo
+count-run p a zero h g = let z : a + 0 ≡ a = omega arith in rw z (sumTo-none a _ (λ k l. rw (h k l)))
+count-run p a (suc n) h g =
+    let z : a + suc n ≡ suc (a + n) = omega arith in
+    rw (z, g (a + n) (omega arith) (omega arith)) (omega (arith, count-run p a n h (λ q x y. g q x (omega arith))))
+
+-- none from a on
+pub count-past : (p : ℕ → Bool) (a n : ℕ) → a ≤ n → ((q : ℕ) → a ≤ q → q < n → p q ≡ false) → countTo n p ≡ countTo a p
+unfolding countTo
+count-past p a n h g = sumTo-skip (λ k. when (p k) 1) a n h (λ k x y. rw (g k x y))

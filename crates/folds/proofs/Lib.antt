@@ -6,4 +6,3 @@ pub mod Loops
 pub mod Slices
 pub mod Counts
 pub mod Parts
-pub mod Extra

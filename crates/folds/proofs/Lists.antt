@@ -4,10 +4,11 @@ use mathlib.Core.Path.{_≡_, refl, sym, _∙_}
 use mathlib.Core.Logic.{⊎-elim}
 use mathlib.Core.List.{List, [], _∷_, _++_}
 use native.Mathlib.Nat.{suc-mul, mul-le-mul-right, not-suc-le-zero}
+use native.Mathlib.Numerals.{add-one}
 use native.Mathlib.Omega.{arith}
 use lib.Dec.{eqb}
-use lib.ListN.{length, getD, set, replicate, take, length-append, List·getD-append, length-replicate}
-use lib.Seq.{take-suc, getD-set-same, getD-set-other, getD-at, ext-getD}
+use lib.ListN.{length, getD, set, replicate, take, drop, length-append, List·getD-append, length-replicate}
+use lib.Seq.{drop-cons, take-suc, getD-set-same, getD-set-other, getD-at, ext-getD}
 use borrow.Author.Tests.{eq-eqb, ne-eqb}
 use Rattle.folds.specs.Fold.{when, listTo, zeros}
 use Rattle.folds.proofs.Cases.{either, eq-or-ne, last-or}
@@ -91,3 +92,7 @@ row-in r k n l = omega (arith, suc-mul r n, mul-le-mul-right n l)
 
 pub cell-in : (r k n i : ℕ) → r < k → i < n → r * n + i < k * n
 cell-in r k n i l h = omega (arith, row-in r k n l)
+
+-- a list from place i on, at the code's i + 1
+pub left-cons : {A : Type 0} (t : List A) (i : ℕ) (d : A) → i < length t → drop i t ≡ getD t i d ∷ drop (i + 1) t
+left-cons t i d h = rw (add-one, drop-cons t i d)

@@ -1,15 +1,19 @@
 -- The rows of a hierarchy, whoever made them: what the layers above joining may know of them.
-use Prim.Native.Nat.{ℕ, suc, _<_, _≤_}
+use Prim.Native.Nat.{ℕ, suc, _*_, _<_, _≤_}
 use mathlib.Core.Path.{_≡_}
 use mathlib.Core.List.{List}
 use lib.ListN.{length, getD}
-use Rattle.folds.specs.Fold.{maxTo}
+use Rattle.folds.specs.Fold.{maxTo, part}
 use Rattle.graph.specs.Walk.{Acyclic}
 use Rattle.graph.specs.Graph.{Graph, vertices, seen, Edge, identity, RowOf}
 
 -- how many clusters a row has: groups are numbered from 0
 unfoldable pub clusters : List ℕ → ℕ
 clusters row = maxTo (length row) (λ v. suc (getD row v 0))
+
+-- document 01: each rung is one row of the ladder, n entries long: row r of the rows that lie end to end
+abbrev pub rowsIn : List ℕ → ℕ → ℕ → List ℕ
+rowsIn rows n r = part rows (r * n) n
 
 -- document 01: the ladder's rows 0 to top, the kept rungs
 pub record Hierarchy (G : Graph) (rows : ℕ → List ℕ) (top : ℕ) : Type 0 where

@@ -10,7 +10,8 @@ use Rattle.folds.proofs.Lists.{row-in}
 use Rattle.graph.specs.Graph.{Graph}
 use Rattle.division.specs.Division.{Pick, none, some}
 use Rattle.initial.specs.Initial.{Chosen, found, uncut, orLower, highest, initialOf, chosenOf}
-use Rattle.initial.specs.Answers.{foundOf, tableAfter, Answers, rowsIn, initialAs, chosenAfter, Chooses, Lent}
+use Rattle.initial.specs.Answers.{foundOf, tableAfter, Answers, initialAs, chosenAfter, Chooses, Lent}
+use Rattle.graph.specs.Rows.{rowsIn}
 use Rattle.initial.specs.declared.Initial.{Initial}
 use Rattle.initial.specs.declared.Initial.the-variants.{At, Uncut}
 use Rattle.initial.specs.declared.Found.{Found}

@@ -3,7 +3,7 @@ use Prim.Native.Nat.{ℕ, suc, _*_, _<_, _≤_}
 use mathlib.Core.Path.{_≡_}
 use mathlib.Core.List.{List}
 use lib.ListN.{length}
-use Rattle.folds.specs.Fold.{over, part}
+use Rattle.folds.specs.Fold.{over}
 use Rattle.division.specs.Division.{Pick, none, some}
 use Rattle.initial.specs.Initial.{Chosen, found, uncut}
 use Rattle.initial.specs.declared.Initial.{Initial}
@@ -23,10 +23,6 @@ tableAfter (some c t) old = over t old
 pub record Answers (p : Pick (List ℕ)) (old new : List ℕ) (r : Found) : Type 0 where
   pub is : r ≡ foundOf p
   pub table : new ≡ tableAfter p old
-
--- row r of the rows that lie end to end, of n entries each
-abbrev pub rowsIn : List ℕ → ℕ → ℕ → List ℕ
-rowsIn rows n r = part rows (r * n) n
 
 abbrev pub initialAs : Chosen → Initial
 initialAs uncut = Uncut

@@ -7,7 +7,8 @@ ghost use Rattle.graph.specs.Walk.{Acyclic};
 ghost use Rattle.graph.specs.Graph.{via, arcs, Edge, through, graphOf, Proper};
 ghost use Rattle.graph.specs.Rows.{clusters, Hierarchy};
 ghost use Rattle.initial.specs.Initial.{placesIn, partsOf, leastParts, initialOf, chosenOf};
-ghost use Rattle.initial.specs.Answers.{Answers, rowsIn, Chooses, Lent};
+ghost use Rattle.initial.specs.Answers.{Answers, Chooses, Lent};
+ghost use Rattle.graph.specs.Rows.{rowsIn};
 ghost use Rattle.graph.specs.Links.{Linked, Joins};
 ghost use Rattle.initial.specs.Positions.{Placed, Spots, Weighed, Room, Gathered, Tabled, Once, Inverse, Layer};
 

@@ -12,7 +12,7 @@ use lib.Seq.{drop-at}
 use borrow.Author.Tests.{le-ltb, le-leb, eq-eqb, ltb-false, eqb-true}
 use Rattle.folds.specs.Fold.{pick}
 use Rattle.folds.proofs.Cases.{no-bool}
-use Rattle.folds.proofs.Extra.{chose}
+use Rattle.folds.proofs.Cases.{chose}
 use Rattle.decimal.specs.Decimal.{digits, decimal}
 use Rattle.line_forms.specs.Form.{Field, printed, printedFields, printedAll, fits, asForm}
 use Rattle.line_forms.specs.Lines.{linesOf, leading, ofForm, column}

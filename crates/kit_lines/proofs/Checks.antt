@@ -16,10 +16,11 @@ use Rattle.kit_lines.specs.Forms.{kitForm, blockForm, wireForm}
 use Rattle.line_forms.specs.Answer.{refused}
 use Rattle.line_forms.proofs.Lines.{lines-none, lines-left}
 use Rattle.line_forms.proofs.Steps.{told}
-use Rattle.kit_lines.specs.Kit.{kitWith, kitAfter, kitLines, blockRows, wireRows, numberOf}
+use Rattle.kit_lines.specs.Kit.{kitWith, kitAfter, kitLines, blockRows, wireRows}
+use Rattle.validity.specs.Cause.{numberOf}
 use Rattle.kit_lines.specs.Scan.{blocksAt, wiresAt, IsFine, Scanned}
 use Rattle.kit_lines.specs.declared.Layout.{Layout}
-use Rattle.kit_lines.specs.declared.Fault.{Fault}
+use Rattle.validity.specs.declared.Cause.{Cause}
 use Rattle.kit_lines.specs.declared.Scan.{Scan}
 use Rattle.kit_lines.specs.declared.Scan.the-variants.{Fine, Refused}
 use Rattle.kit_lines.proofs.Accepted.{kit-some}
@@ -82,5 +83,5 @@ module _ (t : List ℕ) (from : ℕ) {x : Triple} (b k l i n j m p : ℕ) (e : a
 pub scan-fine : (t : List ℕ) (x : Scan) (y : Layout) → Scanned t 0 x → x ≡ Fine y → IsFine t 0 y
 scan-fine t x y s e = subst (Scanned t 0) e s
 
-pub scan-refused : (t : List ℕ) (x : Scan) (fault : Fault) (place : ℕ) → Scanned t 0 x → x ≡ Refused fault place → kitLines (linesOf t) ≡ refused (numberOf fault) place
+pub scan-refused : (t : List ℕ) (x : Scan) (fault : Cause) (place : ℕ) → Scanned t 0 x → x ≡ Refused fault place → kitLines (linesOf t) ≡ refused (numberOf fault) place
 scan-refused t x fault place s e = subst (Scanned t 0) e s

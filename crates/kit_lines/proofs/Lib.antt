@@ -2,3 +2,4 @@ pub mod Lines
 pub mod Accepted
 pub mod Checks
 pub mod Refused
+mod Examples

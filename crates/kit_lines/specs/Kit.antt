@@ -9,8 +9,6 @@ use Rattle.line_forms.specs.Answer.{Answer, accepted, refused}
 use Rattle.line_forms.specs.Form.{asForm}
 use Rattle.line_forms.specs.Lines.{linesOf, leading, ofForm, column}
 use Rattle.kit_lines.specs.Forms.{kitForm, blockForm, wireForm}
-use Rattle.kit_lines.specs.declared.Fault.{Fault}
-use Rattle.kit_lines.specs.declared.Fault.the-variants.{Length, Line, Lines, Room}
 
 -- a kit as its text gives it: the stage count, the limit, the costs of its blocks, and its wires
 pub record Kit : Type 0 where
@@ -59,10 +57,3 @@ kitLines (l ∷ ls) = elim (asForm kitForm l) [ some head ↦ kitAfter head ls |
 -- what a text says
 unfoldable pub kitOf : List ℕ → Answer Kit
 kitOf t = pick (ltb 65536 (length t)) (refused 14 0) (kitLines (linesOf t))
-
--- document 01's number of each fault that the reading finds
-abbrev pub numberOf : Fault → ℕ
-numberOf Length = 14
-numberOf Line = 15
-numberOf Lines = 16
-numberOf Room = 4

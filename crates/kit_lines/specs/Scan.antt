@@ -5,7 +5,8 @@ use mathlib.Core.List.{List, [], _∷_}
 use lib.ListN.{length, drop}
 use Rattle.line_forms.specs.Answer.{Answer, accepted, refused}
 use Rattle.line_forms.specs.Lines.{linesOf}
-use Rattle.kit_lines.specs.Kit.{Kit, kitFrom, kitLines, blockRows, wireRows, numberOf}
+use Rattle.kit_lines.specs.Kit.{Kit, kitFrom, kitLines, blockRows, wireRows}
+use Rattle.validity.specs.Cause.{numberOf}
 use Rattle.kit_lines.specs.declared.Layout.{Layout}
 use Rattle.kit_lines.specs.declared.Scan.{Scan}
 use Rattle.kit_lines.specs.declared.Scan.the-variants.{Fine, Refused}

@@ -2,33 +2,13 @@ ghost use mathlib.Core.Path.{_≡_};
 ghost use Rattle.line_forms.specs.Lines.{Ran, ofForm};
 ghost use Rattle.line_forms.specs.Read.{readForm, asOne, asThree};
 ghost use Rattle.kit_lines.specs.Forms.{kitForm, blockForm, wireForm};
-ghost use Rattle.kit_lines.specs.Kit.{numberOf};
 ghost use Rattle.kit_lines.specs.Scan.{Scanned};
 use decimal::Number;
 use line_forms::Run;
 use line_forms::Triple;
+use validity::Cause;
 
 // The lines of a kit text (document 01, "Kit text"), and the checks 15 and 16 over them.
-
-// Why a text is refused.
-pub enum Fault {
-    Length,
-    Line,
-    Lines,
-    Room,
-}
-
-// Document 01's number of a fault.
-pub fn number(f: Fault) -> usize
-    ensures { λ r. ⌜ r ≡ numberOf f ⌝ }
-{
-    match f {
-        Fault::Length => 14,
-        Fault::Line => 15,
-        Fault::Lines => 16,
-        Fault::Room => 4,
-    }
-}
 
 // A text that is known to be good: its figures, and where its block lines and its wire lines begin.
 pub struct Layout {
@@ -42,7 +22,7 @@ pub struct Layout {
 
 pub enum Scan {
     Fine(Layout),
-    Refused(Fault, usize),
+    Refused(Cause, usize),
 }
 
 pub fn kit_line(text: &[u8], at: usize) -> Triple
@@ -119,7 +99,7 @@ pub fn scan_at(text: &[u8], at: usize) -> Scan
     ensures { λ r. ⌜ Scanned (now (text .entry)) at r ⌝ }
 {
     let Triple::Are(b, k, l, i) = kit_line(text, at) else {
-        return Scan::Refused(Fault::Line, 1);
+        return Scan::Refused(Cause::Line, 1);
     };
     let bs = block_lines(text, i);
     let n = bs.count;
@@ -128,10 +108,10 @@ pub fn scan_at(text: &[u8], at: usize) -> Scan
     let m = ws.count;
     let e = ws.next;
     if e < text.len() {
-        return Scan::Refused(Fault::Line, n + m + 2);
+        return Scan::Refused(Cause::Line, n + m + 2);
     }
     if n != line_forms::size(b) {
-        return Scan::Refused(Fault::Lines, 0);
+        return Scan::Refused(Cause::Lines, 0);
     }
     Scan::Fine(Layout {
         stages: k,

@@ -9,11 +9,12 @@ use Rattle.folds.specs.Fold.{pick, over}
 use Rattle.line_forms.specs.Lines.{linesOf, column}
 use Rattle.line_forms.proofs.Lines.{length-column}
 use Rattle.line_forms.specs.Answer.{Answer, accepted, refused}
-use Rattle.kit_lines.specs.Kit.{Kit, numberOf, kitLines, kitOf}
+use Rattle.kit_lines.specs.Kit.{Kit, kitLines, kitOf}
+use Rattle.validity.specs.Cause.{numberOf}
 use Rattle.kit_text.specs.Reading.{Lists, lists, Figures, figures, roomed, readingOf, written}
 use Rattle.kit_lines.specs.Scan.{blocksAt, wiresAt, laidOut, IsFine}
 use Rattle.kit_lines.specs.declared.Layout.{Layout}
-use Rattle.kit_lines.specs.declared.Fault.{Fault}
+use Rattle.validity.specs.declared.Cause.{Cause}
 
 module _ (t : List ℕ) (y : Layout) (f : IsFine t 0 y) (old : Lists) where
   room-tests : Answer Kit → Answer Kit
@@ -74,7 +75,7 @@ module _ (t : List ℕ) (old : Lists) where
   too-long h = rw (lt-ltb _ _ h) (refl, refl)
 
   module _ (h : length t ≤ 65536) where
-    pub bad-lines : (fault : Fault) (place : ℕ) → kitLines (linesOf t) ≡ refused (numberOf fault) place → (refused (numberOf fault) place ≡ figures (readingOf t old)) × (old ≡ written (readingOf t old) old)
+    pub bad-lines : (fault : Cause) (place : ℕ) → kitLines (linesOf t) ≡ refused (numberOf fault) place → (refused (numberOf fault) place ≡ figures (readingOf t old)) × (old ≡ written (readingOf t old) old)
     unfolding readingOf kitOf roomed written
     bad-lines fault place e = rw (le-ltb _ _ h, e) (refl, refl)
 

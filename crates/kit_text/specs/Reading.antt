@@ -5,7 +5,8 @@ use lib.Dec.{ltb}
 use lib.ListN.{length}
 use Rattle.folds.specs.Fold.{pick, over}
 use Rattle.line_forms.specs.Answer.{Answer, accepted, refused}
-use Rattle.kit_lines.specs.Kit.{Kit, kitOf, numberOf}
+use Rattle.kit_lines.specs.Kit.{Kit, kitOf}
+use Rattle.validity.specs.Cause.{numberOf}
 use Rattle.kit_text.specs.declared.Reading.{Reading}
 use Rattle.kit_text.specs.declared.Reading.the-variants as reading
 

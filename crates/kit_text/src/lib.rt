@@ -6,7 +6,7 @@ ghost use Rattle.line_forms.specs.Lines.{column};
 ghost use Rattle.kit_lines.specs.Scan.{blocksAt, wiresAt, laidOut, IsFine, Scanned};
 ghost use Rattle.kit_text.specs.Reading.{lists, roomed, readingOf, written, figures, outcome};
 use decimal::Number;
-use kit_lines::Fault;
+use validity::Cause;
 use kit_lines::Layout;
 use kit_lines::Scan;
 use line_forms::Triple;
@@ -16,7 +16,7 @@ use line_forms::Triple;
 // What reading a text answers: the numbers of blocks and wires, the stage count and the limit; or why not, and the place.
 pub enum Reading {
     Kit(usize, usize, u32, u32),
-    Refused(Fault, usize),
+    Refused(Cause, usize),
 }
 
 // The reader of kit text: the text that the caller lends, and how far it has been read.
@@ -104,16 +104,16 @@ fn load(
     let n = y.blocks;
     let m = y.wires;
     if costs.len() < n {
-        return Reading::Refused(Fault::Room, 0);
+        return Reading::Refused(Cause::Room, 0);
     }
     if starts.len() < m {
-        return Reading::Refused(Fault::Room, 0);
+        return Reading::Refused(Cause::Room, 0);
     }
     if ends.len() < m {
-        return Reading::Refused(Fault::Room, 0);
+        return Reading::Refused(Cause::Room, 0);
     }
     if widths.len() < m {
-        return Reading::Refused(Fault::Room, 0);
+        return Reading::Refused(Cause::Room, 0);
     }
     write_costs(text, y.first_block, costs);
     write_wires(text, y.first_wire, starts, ends, widths);
@@ -132,7 +132,7 @@ pub fn read_kit(
     ensures { λ _. ⌜ lists (now (costs .exit)) (now (starts .exit)) (now (ends .exit)) (now (widths .exit)) ≡ written (readingOf (now (text .entry)) (lists (now (costs .entry)) (now (starts .entry)) (now (ends .entry)) (now (widths .entry)))) (lists (now (costs .entry)) (now (starts .entry)) (now (ends .entry)) (now (widths .entry))) ⌝ }
 {
     if text.len() > 65536 {
-        return Reading::Refused(Fault::Length, 0);
+        return Reading::Refused(Cause::Length, 0);
     }
     let s = check_text(text);
     match s {

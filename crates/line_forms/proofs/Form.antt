@@ -12,7 +12,7 @@ use lib.Seq.{append-snoc, drop-drop}
 use borrow.Author.Tests.{eq-eqb, ne-eqb, le-leb, leb-true, eqb-true}
 use Rattle.folds.specs.Fold.{pick}
 use Rattle.folds.proofs.Cases.{no-bool, both, both-i}
-use Rattle.folds.proofs.Extra.{chose}
+use Rattle.folds.proofs.Cases.{chose}
 use Rattle.decimal.specs.Decimal.{decimal, digit, numbers, numbersIn}
 use Rattle.decimal.specs.Read.{startsOf}
 use Rattle.decimal.specs.declared.Number.{Number}

@@ -12,7 +12,7 @@ use lib.Dec.{eqb}
 use lib.ListN.{length, getD, set, take, drop, length-drop, drop-of-length-le}
 use lib.Seq.{drop-drop}
 use Rattle.folds.specs.Fold.{pick, Wrote, over}
-use Rattle.folds.proofs.Extra.{chose}
+use Rattle.folds.proofs.Cases.{chose}
 use Rattle.folds.proofs.Slices.{wrote-none, wrote-turn, wrote-done}
 use Rattle.line_forms.specs.Form.{Form, printed, asForm, clear}
 use Rattle.line_forms.specs.Lines.{linesOf, joined, newlines, numbered, leading, column, ofForm, Ran}

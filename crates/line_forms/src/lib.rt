@@ -57,15 +57,7 @@ pub fn one(text: &[u8], at: usize, p: &[u8], most: u32, end: &[u8]) -> Number
     Number::Is(a, i + end.len())
 }
 
-pub fn two(
-    text: &[u8],
-    at: usize,
-    p: &[u8],
-    most: u32,
-    q: &[u8],
-    last: u32,
-    end: &[u8],
-) -> Pair
+pub fn two(text: &[u8], at: usize, p: &[u8], most: u32, q: &[u8], last: u32, end: &[u8]) -> Pair
     requires { ⌜ (9 ≤ most) × (most < 100000000) × (9 ≤ last) × (last < 100000000) ⌝ }
     ensures { λ r. ⌜ asTwo r ≡ readFields (field (now (p .entry)) most ∷ field (now (q .entry)) last ∷ []) (now (end .entry)) (now (text .entry)) at ⌝ }
 {

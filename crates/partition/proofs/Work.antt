@@ -27,7 +27,8 @@ use Rattle.hierarchy.specs.Built.{Built, Buildable}
 use Rattle.hierarchy.proofs.Flat.{length-flat}
 use Rattle.hierarchy.proofs.Own.{rows-hierarchy, hierarchy-ext, row-sound, ladder-row, kept-few}
 use Rattle.initial.specs.Initial.{Chosen, found, uncut, chosenOf}
-use Rattle.initial.specs.Answers.{rowsIn, Chooses, Lent}
+use Rattle.initial.specs.Answers.{Chooses, Lent}
+use Rattle.graph.specs.Rows.{rowsIn}
 use Rattle.initial.specs.declared.Initial.{Initial}
 use Rattle.initial.specs.declared.Initial.the-variants.{At}
 use Rattle.initial.specs.declared.Initial.the-variants as initial

@@ -20,7 +20,8 @@ use Rattle.moves.proofs.Entries.{nested, good-down}
 use Rattle.moves.proofs.Own.{refined-steps, steps-good, steps-fall}
 use Rattle.moves.proofs.Claims.{refined-good}
 use Rattle.refine.specs.Rung.{Ready}
-use Rattle.refine.specs.Down.{rowsIn, Descends, Refined}
+use Rattle.refine.specs.Down.{Descends, Refined}
+use Rattle.graph.specs.Rows.{rowsIn}
 
 -- the rungs below r are still to come, and make R of the table
 pub record Descent (G : Graph) (k bound : ℕ) (rows : ℕ → List ℕ) (top : ℕ) (R : Tally) (r : ℕ) (parts : List ℕ) (moves : ℕ) : Type 0 where

@@ -3,16 +3,12 @@ use Prim.Native.Nat.{ℕ, suc, _*_, _≤_}
 use mathlib.Core.Path.{_≡_}
 use mathlib.Core.List.{List}
 use lib.ListN.{length, take}
-use Rattle.folds.specs.Fold.{over, part}
+use Rattle.folds.specs.Fold.{over}
 use Rattle.graph.specs.Graph.{Graph, vertices, cutOf, Proper}
-use Rattle.graph.specs.Rows.{Hierarchy}
+use Rattle.graph.specs.Rows.{rowsIn, Hierarchy}
 use Rattle.moves.specs.Entries.{stateOf, Good}
 use Rattle.moves.specs.Pass.{refined}
 use Rattle.refine.specs.declared.Outcome.{Outcome}
-
--- document 01: the ladder's row r is its n entries from r × n on
-abbrev pub rowsIn : List ℕ → ℕ → ℕ → List ℕ
-rowsIn rows n r = part rows (r * n) n
 
 -- a table that is good on a rung of the ladder
 pub record Descends (G : Graph) (k bound : ℕ) (rows : List ℕ) (rung : ℕ) (parts : List ℕ) : Type 0 where

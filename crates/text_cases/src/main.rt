@@ -25,7 +25,7 @@ fn say_reading(r: Reading) {
         }
         Reading::Refused(f, p) => {
             say(b"refused");
-            say_number(kit_lines::number(f));
+            say_number(validity::number(f) as usize);
             say_number(p);
         }
     }
@@ -74,15 +74,39 @@ fn read(name: &[u8], text: &[u8]) {
 
 fn lines() {
     read(b"empty text", b"");
-    read(b"an empty line first", b"\n(kit (blocks 0) (stages 1) (limit 1))\n");
-    read(b"an empty line last", b"(kit (blocks 0) (stages 1) (limit 1))\n\n");
-    read(b"two spaces", b"(kit (blocks 1)  (stages 1) (limit 1))\n(block (cost 1))\n");
-    read(b"no byte 10 at the end", b"(kit (blocks 1) (stages 1) (limit 1))\n(block (cost 1))");
-    read(b"byte 13", b"(kit (blocks 1) (stages 1) (limit 1))\r\n(block (cost 1))\r\n");
-    read(b"byte 0", b"(kit (blocks 1) (stages 1) (limit 1))\n(block (cost 1))\n\0\n");
-    read(b"bytes above 127", b"(kit (blocks 1) (stages 1) (limit 1))\n(block (cost \xb9))\n");
+    read(
+        b"an empty line first",
+        b"\n(kit (blocks 0) (stages 1) (limit 1))\n",
+    );
+    read(
+        b"an empty line last",
+        b"(kit (blocks 0) (stages 1) (limit 1))\n\n",
+    );
+    read(
+        b"two spaces",
+        b"(kit (blocks 1)  (stages 1) (limit 1))\n(block (cost 1))\n",
+    );
+    read(
+        b"no byte 10 at the end",
+        b"(kit (blocks 1) (stages 1) (limit 1))\n(block (cost 1))",
+    );
+    read(
+        b"byte 13",
+        b"(kit (blocks 1) (stages 1) (limit 1))\r\n(block (cost 1))\r\n",
+    );
+    read(
+        b"byte 0",
+        b"(kit (blocks 1) (stages 1) (limit 1))\n(block (cost 1))\n\0\n",
+    );
+    read(
+        b"bytes above 127",
+        b"(kit (blocks 1) (stages 1) (limit 1))\n(block (cost \xb9))\n",
+    );
     read(b"no kit line", b"(block (cost 1))\n");
-    read(b"a second kit line", b"(kit (blocks 0) (stages 1) (limit 1))\n(kit (blocks 0) (stages 1) (limit 1))\n");
+    read(
+        b"a second kit line",
+        b"(kit (blocks 0) (stages 1) (limit 1))\n(kit (blocks 0) (stages 1) (limit 1))\n",
+    );
     read(
         b"a wire line before block lines",
         b"(kit (blocks 1) (stages 1) (limit 1))\n(wire (from 0) (to 0) (width 1))\n(block (cost 1))\n",
@@ -91,26 +115,68 @@ fn lines() {
         b"a wire line between block lines",
         b"(kit (blocks 2) (stages 1) (limit 1))\n(block (cost 1))\n(wire (from 0) (to 0) (width 1))\n(block (cost 1))\n",
     );
-    read(b"a word misspelt", b"(kit (blocks 1) (stages 1) (limit 1))\n(blok (cost 1))\n");
+    read(
+        b"a word misspelt",
+        b"(kit (blocks 1) (stages 1) (limit 1))\n(blok (cost 1))\n",
+    );
 }
 
 fn counts() {
-    read(b"blocks 600 with one line", b"(kit (blocks 600) (stages 1) (limit 1))\n(block (cost 1))\n");
-    read(b"blocks 1 with two lines", b"(kit (blocks 1) (stages 1) (limit 1))\n(block (cost 1))\n(block (cost 1))\n");
-    read(b"blocks 0 alone", b"(kit (blocks 0) (stages 1) (limit 1))\n");
+    read(
+        b"blocks 600 with one line",
+        b"(kit (blocks 600) (stages 1) (limit 1))\n(block (cost 1))\n",
+    );
+    read(
+        b"blocks 1 with two lines",
+        b"(kit (blocks 1) (stages 1) (limit 1))\n(block (cost 1))\n(block (cost 1))\n",
+    );
+    read(
+        b"blocks 0 alone",
+        b"(kit (blocks 0) (stages 1) (limit 1))\n",
+    );
 }
 
 fn values() {
-    read(b"65,535", b"(kit (blocks 1) (stages 65535) (limit 1))\n(block (cost 65535))\n");
-    read(b"65,536 as a cost", b"(kit (blocks 1) (stages 1) (limit 1))\n(block (cost 65536))\n");
-    read(b"65,536 as a stage count", b"(kit (blocks 1) (stages 65536) (limit 1))\n(block (cost 1))\n");
-    read(b"limit 99,999,999", b"(kit (blocks 1) (stages 1) (limit 99999999))\n(block (cost 1))\n");
-    read(b"limit 100,000,000", b"(kit (blocks 1) (stages 1) (limit 100000000))\n(block (cost 1))\n");
-    read(b"0", b"(kit (blocks 1) (stages 0) (limit 0))\n(block (cost 0))\n");
-    read(b"00", b"(kit (blocks 1) (stages 1) (limit 1))\n(block (cost 00))\n");
-    read(b"01", b"(kit (blocks 1) (stages 1) (limit 01))\n(block (cost 1))\n");
-    read(b"no digit", b"(kit (blocks 1) (stages 1) (limit 1))\n(block (cost ))\n");
-    read(b"a sign", b"(kit (blocks 1) (stages 1) (limit 1))\n(block (cost -1))\n");
+    read(
+        b"65,535",
+        b"(kit (blocks 1) (stages 65535) (limit 1))\n(block (cost 65535))\n",
+    );
+    read(
+        b"65,536 as a cost",
+        b"(kit (blocks 1) (stages 1) (limit 1))\n(block (cost 65536))\n",
+    );
+    read(
+        b"65,536 as a stage count",
+        b"(kit (blocks 1) (stages 65536) (limit 1))\n(block (cost 1))\n",
+    );
+    read(
+        b"limit 99,999,999",
+        b"(kit (blocks 1) (stages 1) (limit 99999999))\n(block (cost 1))\n",
+    );
+    read(
+        b"limit 100,000,000",
+        b"(kit (blocks 1) (stages 1) (limit 100000000))\n(block (cost 1))\n",
+    );
+    read(
+        b"0",
+        b"(kit (blocks 1) (stages 0) (limit 0))\n(block (cost 0))\n",
+    );
+    read(
+        b"00",
+        b"(kit (blocks 1) (stages 1) (limit 1))\n(block (cost 00))\n",
+    );
+    read(
+        b"01",
+        b"(kit (blocks 1) (stages 1) (limit 01))\n(block (cost 1))\n",
+    );
+    read(
+        b"no digit",
+        b"(kit (blocks 1) (stages 1) (limit 1))\n(block (cost ))\n",
+    );
+    read(
+        b"a sign",
+        b"(kit (blocks 1) (stages 1) (limit 1))\n(block (cost -1))\n",
+    );
 }
 
 // Three blocks and two wires, into lists that are just long enough, or one of them one too short.
@@ -119,7 +185,14 @@ fn exact(text: &[u8]) {
     let mut starts = [7u16; 2];
     let mut ends = [7u16; 2];
     let mut widths = [7u16; 2];
-    show(b"lists just long enough", text, &mut costs, &mut starts, &mut ends, &mut widths);
+    show(
+        b"lists just long enough",
+        text,
+        &mut costs,
+        &mut starts,
+        &mut ends,
+        &mut widths,
+    );
 }
 
 fn short_costs(text: &[u8]) {
@@ -127,7 +200,14 @@ fn short_costs(text: &[u8]) {
     let mut starts = [7u16; 2];
     let mut ends = [7u16; 2];
     let mut widths = [7u16; 2];
-    show(b"costs one too short", text, &mut costs, &mut starts, &mut ends, &mut widths);
+    show(
+        b"costs one too short",
+        text,
+        &mut costs,
+        &mut starts,
+        &mut ends,
+        &mut widths,
+    );
 }
 
 fn short_starts(text: &[u8]) {
@@ -135,7 +215,14 @@ fn short_starts(text: &[u8]) {
     let mut starts = [7u16; 1];
     let mut ends = [7u16; 2];
     let mut widths = [7u16; 2];
-    show(b"starts one too short", text, &mut costs, &mut starts, &mut ends, &mut widths);
+    show(
+        b"starts one too short",
+        text,
+        &mut costs,
+        &mut starts,
+        &mut ends,
+        &mut widths,
+    );
 }
 
 fn short_ends(text: &[u8]) {
@@ -143,7 +230,14 @@ fn short_ends(text: &[u8]) {
     let mut starts = [7u16; 2];
     let mut ends = [7u16; 1];
     let mut widths = [7u16; 2];
-    show(b"ends one too short", text, &mut costs, &mut starts, &mut ends, &mut widths);
+    show(
+        b"ends one too short",
+        text,
+        &mut costs,
+        &mut starts,
+        &mut ends,
+        &mut widths,
+    );
 }
 
 fn short_widths(text: &[u8]) {
@@ -151,7 +245,14 @@ fn short_widths(text: &[u8]) {
     let mut starts = [7u16; 2];
     let mut ends = [7u16; 2];
     let mut widths = [7u16; 1];
-    show(b"widths one too short", text, &mut costs, &mut starts, &mut ends, &mut widths);
+    show(
+        b"widths one too short",
+        text,
+        &mut costs,
+        &mut starts,
+        &mut ends,
+        &mut widths,
+    );
 }
 
 fn no_room(name: &[u8], text: &[u8]) {
@@ -163,15 +264,25 @@ fn no_room(name: &[u8], text: &[u8]) {
 }
 
 fn rooms() {
-    let text = b"(kit (blocks 3) (stages 2) (limit 9))\n(block (cost 4))\n(block (cost 5))\n(block (cost 6))\n(wire (from 0) (to 1) (width 8))\n(wire (from 1) (to 2) (width 9))\n";
+    let text =
+        b"(kit (blocks 3) (stages 2) (limit 9))\n(block (cost 4))\n(block (cost 5))\n(block (cost 6))\n(wire (from 0) (to 1) (width 8))\n(wire (from 1) (to 2) (width 9))\n";
     exact(text);
     short_costs(text);
     short_starts(text);
     short_ends(text);
     short_widths(text);
-    no_room(b"16 before 4", b"(kit (blocks 2) (stages 1) (limit 1))\n(block (cost 1))\n");
-    no_room(b"15 before 4", b"(kit (blocks 2) (stages 1) (limit 1))\n(block (cost 1)\n");
-    no_room(b"no blocks, no room", b"(kit (blocks 0) (stages 1) (limit 1))\n");
+    no_room(
+        b"16 before 4",
+        b"(kit (blocks 2) (stages 1) (limit 1))\n(block (cost 1))\n",
+    );
+    no_room(
+        b"15 before 4",
+        b"(kit (blocks 2) (stages 1) (limit 1))\n(block (cost 1)\n",
+    );
+    no_room(
+        b"no blocks, no room",
+        b"(kit (blocks 0) (stages 1) (limit 1))\n",
+    );
 }
 
 // Adds a line, if there is room for it.
@@ -209,7 +320,12 @@ fn front(buf: &[u8], n: usize) -> &[u8] {
 fn fill(buf: &mut [u8], head: &[u8], blocks: usize, wires: usize) -> usize {
     let i = add(buf, 0, head);
     let j = repeat(buf, i, b"(block (cost 65535))\n", blocks);
-    repeat(buf, j, b"(wire (from 65535) (to 65535) (width 65535))\n", wires)
+    repeat(
+        buf,
+        j,
+        b"(wire (from 65535) (to 65535) (width 65535))\n",
+        wires,
+    )
 }
 
 fn many(name: &[u8], head: &[u8], blocks: usize, wires: usize) {
@@ -225,10 +341,30 @@ fn junk() {
 }
 
 fn sizes() {
-    many(b"512 block lines and 1,024 wire lines", b"(kit (blocks 512) (stages 16) (limit 4800))\n", 512, 1024);
-    many(b"the 513th block line", b"(kit (blocks 512) (stages 16) (limit 4800))\n", 513, 0);
-    many(b"the 513th block line under 600", b"(kit (blocks 600) (stages 16) (limit 4800))\n", 600, 0);
-    many(b"the 1,025th wire line", b"(kit (blocks 512) (stages 16) (limit 4800))\n", 512, 1025);
+    many(
+        b"512 block lines and 1,024 wire lines",
+        b"(kit (blocks 512) (stages 16) (limit 4800))\n",
+        512,
+        1024,
+    );
+    many(
+        b"the 513th block line",
+        b"(kit (blocks 512) (stages 16) (limit 4800))\n",
+        513,
+        0,
+    );
+    many(
+        b"the 513th block line under 600",
+        b"(kit (blocks 600) (stages 16) (limit 4800))\n",
+        600,
+        0,
+    );
+    many(
+        b"the 1,025th wire line",
+        b"(kit (blocks 512) (stages 16) (limit 4800))\n",
+        512,
+        1025,
+    );
     junk();
 }
 
@@ -287,7 +423,12 @@ fn refusals() {
     let mut short = [46u8; 30];
     refusal(b"refusal, one byte short", &mut short, 9, 0);
     let mut long = [46u8; 60];
-    refusal(b"refusal at the highest place", &mut long, 15, 18446744073709551615);
+    refusal(
+        b"refusal at the highest place",
+        &mut long,
+        15,
+        18446744073709551615,
+    );
     let mut none: [u8; 0] = [];
     refusal(b"refusal into no bytes", &mut none, 4, 0);
 }
@@ -331,8 +472,13 @@ fn damaged(name: &[u8], text: &[u8]) {
 }
 
 fn tables() {
-    saved(b"(split (cut 1) (rungs 1) (cutat 1) (moves 0))\n(block 0 (stage 0))\n(block 1 (stage 15))\n(block 2 (stage 65535))\n");
-    damaged(b"a table of no entries", b"(split (cut 0) (rungs 0) (cutat 0) (moves 0))\n");
+    saved(
+        b"(split (cut 1) (rungs 1) (cutat 1) (moves 0))\n(block 0 (stage 0))\n(block 1 (stage 15))\n(block 2 (stage 65535))\n",
+    );
+    damaged(
+        b"a table of no entries",
+        b"(split (cut 0) (rungs 0) (cutat 0) (moves 0))\n",
+    );
     damaged(b"no split line", b"(block 0 (stage 0))\n");
     damaged(b"no text of a table", b"");
     damaged(

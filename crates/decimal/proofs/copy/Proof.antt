@@ -4,7 +4,7 @@ use borrow.Author.Needs.{needs}
 use native.Mathlib.Omega.{arith}
 use lib.ListN.{length, take, length-set}
 use Rattle.folds.specs.Fold.{put}
-use Rattle.folds.proofs.Extra.{copy-turn}
+use Rattle.folds.proofs.Parts.{copy-turn}
 use Rattle.decimal.proofs.Writing.{copy-start, copy-all}
 use Rattle.decimal.proofs.copy.Statement.{statement}
 use Rattle.decimal.proofs.copy.Tie as tie

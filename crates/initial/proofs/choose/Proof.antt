@@ -4,7 +4,7 @@ use native.Mathlib.Omega.{arith}
 use mathlib.Core.Path.{_≡_, refl, ap}
 use lib.ListN.{length}
 use Rattle.graph.specs.Graph.{graphOf}
-use Rattle.initial.specs.Answers.{rowsIn}
+use Rattle.graph.specs.Rows.{rowsIn}
 use Rattle.initial.specs.Initial.{initialOf, highest, chosenOf}
 use Rattle.initial.proofs.Layers.{layer-of}
 use Rattle.initial.proofs.Chooses.{row-hit, row-miss, rows-start, rows-end, lent-row}

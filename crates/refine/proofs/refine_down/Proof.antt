@@ -1,5 +1,5 @@
 use Rattle.refine.proofs.Down.{Descent, descent-start, descent-ready, descent-turn, descent-end, row-held, rung-held, row-part}
-use Rattle.refine.specs.Down.{rowsIn}
+use Rattle.graph.specs.Rows.{rowsIn}
 use Rattle.graph.specs.Graph.{graphOf}
 use Rattle.moves.specs.Pass.{refined}
 use Prim.Native.Nat.{_+_, _-_, _*_, _≤_}
