@@ -4,4 +4,3 @@ pub mod Own
 pub mod Climbs
 pub mod Rising
 pub mod Claims
-pub mod Cases

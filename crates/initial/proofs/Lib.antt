@@ -1,6 +1,5 @@
 pub mod Places
 pub mod Claims
-pub mod Cases
 pub mod Gathers
 pub mod Flows
 pub mod Arranges

@@ -4,4 +4,3 @@ pub mod Entries
 pub mod Visits
 pub mod Own
 pub mod Claims
-pub mod Cases
