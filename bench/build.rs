@@ -1,6 +1,8 @@
 fn main() {
     let here = std::env::var("CARGO_MANIFEST_DIR").unwrap();
-    println!("cargo:rustc-link-search=native={here}/../target/staticlib");
-    println!("cargo:rustc-link-lib=static=export");
-    println!("cargo:rerun-if-changed={here}/../target/staticlib/libexport.a");
+    println!("cargo:rustc-link-search=native={here}/target");
+    for name in ["first", "second"] {
+        println!("cargo:rustc-link-lib=static={name}");
+        println!("cargo:rerun-if-changed={here}/target/lib{name}.a");
+    }
 }

@@ -1,10 +1,12 @@
 #!/usr/bin/env python3
-"""Writes kits: task graphs of small PolyBench kernels, and random graphs of growing size.
+"""Writes kits as SHAPE-SIZE-kSTAGES-LIMIT.kit: task graphs of small PolyBench kernels, drawn
+shapes of growing size, and kits that are refused late.
 
 A task is one run of a kernel's statement; its cost is 1 for each operation. A wire runs from
 the last task that wrote an array element to each task that reads it, as wide as the elements
 carried. Usage: kernels.py DIR
 """
+import heapq
 import os
 import random
 import sys
@@ -89,36 +91,95 @@ def trisolv(n):
     return g
 
 
-def randomly(n, seed):
-    """n blocks under shuffled numbers, two wires a block."""
-    r = random.Random(seed)
-    g = Tasks()
-    g.costs = [r.randint(1, 99) for _ in range(n)]
-    label = list(range(n))
-    r.shuffle(label)
-    while len(g.wires) < min(2 * n, WIRES):
-        a, b = sorted(r.sample(range(n), 2))
-        g.wires[(label[a], label[b])] = r.randint(1, 99)
-    return g
+# The drawn shapes: wires among n blocks, each from a lower to a higher number.
+
+def chain(n, r):
+    return [(v - 1, v) for v in range(1, n)]
 
 
-def layered(n, seed):
+def tree_out(n, r):
+    """Each block but the first has one sender, any earlier one."""
+    return [(r.randrange(v), v) for v in range(1, n)]
+
+
+def tree_in(n, r):
+    """Each block but the last has one receiver, any later one."""
+    return [(v, r.randrange(v + 1, n)) for v in range(n - 1)]
+
+
+def star_out(n, r):
+    return [(0, v) for v in range(1, n)]
+
+
+def star_in(n, r):
+    return [(v, n - 1) for v in range(n - 1)]
+
+
+def fan(n, r):
+    """One block to all but the last, and those to the last."""
+    return [(0, v) for v in range(1, n - 1)] + [(v, n - 1) for v in range(1, n - 1)]
+
+
+def hourglass(n, r):
+    """Half of the blocks to the middle one, and that to the other half."""
+    half = n // 2
+    return [(v, half) for v in range(half)] + [(half, v) for v in range(half + 1, n)]
+
+
+def beads(n, r):
+    """Sixteen to one to sixteen to one."""
+    wires = []
+    for waist in range(16, n, 17):
+        wires += [(v, waist) for v in range(waist - 16, waist)]
+        wires += [(waist, v) for v in range(waist + 1, min(waist + 17, n))]
+    return wires
+
+
+def no_wires(n, r):
+    return []
+
+
+def layered(n, r):
     """Layers of eight, each block with two senders of the layer before."""
-    r = random.Random(seed)
-    g = Tasks()
-    g.costs = [r.randint(1, 9) for _ in range(n)]
+    wires = []
     for v in range(8, n):
         first = (v // 8 - 1) * 8
-        for u in r.sample(range(first, first + 8), 2):
-            g.wires[(u, v)] = r.randint(1, 9)
-    return g
+        wires += [(u, v) for u in r.sample(range(first, first + 8), 2)]
+    return wires
 
 
-def chain(n, seed):
-    r = random.Random(seed)
+def randomly(n, r):
+    """Two wires a block, between any two."""
+    wires = set()
+    while len(wires) < min(2 * n, WIRES):
+        wires.add(tuple(sorted(r.sample(range(n), 2))))
+    return sorted(wires)
+
+
+def bipartite(n, r):
+    """Each of one half to each of the other, as far as wires go."""
+    half = n // 2
+    each = min(half, WIRES // half)
+    return [(u, half + (u + j) % half) for u in range(half) for j in range(each)]
+
+
+GROWING = (64, 128, 256, 512)
+SHAPES = [("chain", chain, GROWING), ("tree_out", tree_out, GROWING), ("tree_in", tree_in, GROWING),
+          ("star_out", star_out, (64, 512)), ("star_in", star_in, (64, 512)), ("fan", fan, (64, 512)),
+          ("hourglass", hourglass, (64, 512)), ("beads", beads, (64, 512)), ("no_wires", no_wires, (64, 512)),
+          ("bipartite", bipartite, (64, 512)), ("layered", layered, GROWING), ("random", randomly, GROWING)]
+
+
+def drawn(make, n, shuffled):
+    """The shape with costs and widths of 1 to 9; shuffled: blocks and wires under any numbers."""
+    r = random.Random(n)
     g = Tasks()
     g.costs = [r.randint(1, 9) for _ in range(n)]
-    g.wires = {(v - 1, v): r.randint(1, 9) for v in range(1, n)}
+    wires, label = make(n, r), list(range(n))
+    if shuffled:
+        r.shuffle(label)
+        r.shuffle(wires)
+    g.wires = {(label[a], label[b]): r.randint(1, 9) for a, b in wires}
     return g
 
 
@@ -133,14 +194,87 @@ def largest(kernel):
         best = g
 
 
-def write(folder, name, g, k):
-    # a fifth above an even share, and room for the largest block
-    limit = sum(g.costs) * 6 // (5 * k) + max(g.costs)
+def least_limit(g, k):
+    """The least limit under which the blocks' play order can be divided into k runs."""
+    waiting, receivers = [0] * len(g.costs), [[] for _ in g.costs]
+    for a, b in g.wires:
+        waiting[b] += 1
+        receivers[a].append(b)
+    ready, order = [v for v, w in enumerate(waiting) if w == 0], []
+    while ready:
+        v = heapq.heappop(ready)
+        order.append(v)
+        for b in receivers[v]:
+            waiting[b] -= 1
+            if waiting[b] == 0:
+                heapq.heappush(ready, b)
+
+    def runs(limit):
+        count, load = 1, 0
+        for v in order:
+            load += g.costs[v]
+            if load > limit:
+                count, load = count + 1, g.costs[v]
+        return count
+
+    low, high = max(g.costs), sum(g.costs)
+    while low < high:
+        middle = (low + high) // 2
+        low, high = (low, middle) if runs(middle) <= k else (middle + 1, high)
+    return low
+
+
+def write(folder, name, g, k, limit):
     lines = ["(kit (blocks %d) (stages %d) (limit %d))" % (len(g.costs), k, limit)]
     lines += ["(block (cost %d))" % c for c in g.costs]
-    lines += ["(wire (from %d) (to %d) (width %d))" % (a, b, w) for (a, b), w in g.wires.items()]
-    with open(os.path.join(folder, name), "w") as f:
+    wires = g.wires.items() if isinstance(g.wires, dict) else g.wires
+    lines += ["(wire (from %d) (to %d) (width %d))" % (a, b, w) for (a, b), w in wires]
+    with open(os.path.join(folder, name + ".kit"), "w") as f:
         f.write("\n".join(lines) + "\n")
+
+
+def write_all(folder, shape, size, g):
+    """Three stage counts, each with three limits: the least that rung 0 allows, a fifth above
+    an even share with room for the largest block, and one that never matters."""
+    for k in (2, 4, 16):
+        even = sum(g.costs) * 6 // (5 * k) + max(g.costs)
+        for word, limit in (("tight", least_limit(g, k)), ("even", even), ("loose", sum(g.costs))):
+            write(folder, "%s-%03d-k%02d-%s" % (shape, size, k, word), g, k, limit)
+
+
+def write_refused(folder):
+    """Of 512 blocks: the last wire repeats, the wires form one loop or a loop of the last blocks
+    alone, and no rung can be cut."""
+    for shape, make, _ in SHAPES:
+        for shuffled in (False, True):
+            g = drawn(make, BLOCKS, shuffled)
+            name = shape + ("_shuffled" if shuffled else "")
+            for k in (1, 16):
+                limit = sum(g.costs) - 1 if k == 1 else least_limit(g, k) - 1
+                if limit >= max(g.costs):
+                    write(folder, "uncut-%s-k%02d" % (name, k), g, k, limit)
+            wires = list(g.wires.items())[:WIRES - 1]
+            if wires:
+                g.wires = wires + wires[-1:]
+                write(folder, "repeat-%s" % name, g, 16, sum(g.costs))
+    two_hubs = Tasks()
+    two_hubs.costs = [1] * BLOCKS
+    wires = [((u, v), 1) for v in range(2, BLOCKS) for u in (0, 1)]
+    two_hubs.wires = wires + wires[-1:]
+    write(folder, "repeat-two_hubs", two_hubs, 16, BLOCKS)
+    for shuffled in (False, True):
+        name = "_shuffled" if shuffled else ""
+        g = drawn(chain, BLOCKS, shuffled)
+        ends = sorted(set(b for _, b in g.wires) ^ set(a for a, _ in g.wires))
+        first = next(v for v in ends if all(b != v for _, b in g.wires))
+        g.wires[(sum(ends) - first, first)] = 1
+        write(folder, "loop-whole%s" % name, g, 16, sum(g.costs))
+        for shape, make in (("random", randomly), ("layered", layered), ("chain", chain)):
+            g = drawn(make, BLOCKS, shuffled)
+            last = (BLOCKS - 2, BLOCKS - 1)
+            g.wires = {e: w for e, w in list(g.wires.items())[:WIRES - 2] if e[0] not in last and e[1] not in last}
+            g.wires[(BLOCKS - 2, BLOCKS - 1)] = g.wires[(BLOCKS - 1, BLOCKS - 2)] = 1
+            write(folder, "loop-last-%s%s" % (shape, name), g, 16, sum(g.costs))
 
 
 def main():
@@ -148,13 +282,14 @@ def main():
     os.makedirs(folder, exist_ok=True)
     for old in os.listdir(folder):
         os.remove(os.path.join(folder, old))
-    for name, kernel in [("2mm", two_mm), ("atax", atax), ("jacobi-1d", jacobi_1d), ("lu", lu), ("trisolv", trisolv)]:
+    for name, kernel in [("2mm", two_mm), ("atax", atax), ("jacobi_1d", jacobi_1d), ("lu", lu), ("trisolv", trisolv)]:
         size, g = largest(kernel)
-        for k in (4, 16):
-            write(folder, "kernel-%s-%d-k%02d.kit" % (name, size, k), g, k)
-    for name, make in [("random", randomly), ("layered", layered), ("chain", chain)]:
-        for n in (64, 128, 256, 512):
-            write(folder, "%s-%03d-k16.kit" % (name, n), make(n, n), 16)
+        write_all(folder, name, size, g)
+    for shape, make, sizes in SHAPES:
+        for n in sizes:
+            write_all(folder, shape, n, drawn(make, n, False))
+            write_all(folder, shape + "_shuffled", n, drawn(make, n, True))
+    write_refused(folder)
 
 
 main()

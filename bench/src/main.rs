@@ -1,17 +1,23 @@
-//! Times the split of the static library and of the reference on the same kits, in turns.
-//! Usage: bench DIR [TURNS]
+//! Times the split of one or two static libraries and of the reference on the same kits, in turns.
+//! Usage: bench DIR TURNS [two]; each kit's times go to DIR/../times.txt
 
 use reference::read_kit;
+use std::collections::BTreeMap;
+use std::fmt::Write;
 use std::hint::black_box;
+use std::path::Path;
 use std::time::Instant;
 
+type Split = unsafe extern "C" fn(
+    costs: *const u16, costs_len: usize, starts: *const u16, starts_len: usize,
+    ends: *const u16, ends_len: usize, widths: *const u16, widths_len: usize,
+    k: usize, limit: u32, table: *mut u16, table_len: usize,
+    ladder: *mut u16, ladder_len: usize, answer: *mut usize, answer_len: usize,
+) -> u32;
+
 extern "C" {
-    fn hatch_split(
-        costs: *const u16, costs_len: usize, starts: *const u16, starts_len: usize,
-        ends: *const u16, ends_len: usize, widths: *const u16, widths_len: usize,
-        k: usize, limit: u32, table: *mut u16, table_len: usize,
-        ladder: *mut u16, ladder_len: usize, answer: *mut usize, answer_len: usize,
-    ) -> u32;
+    fn first_split();
+    fn second_split();
     fn pthread_getattr_np(thread: usize, attr: *mut [u64; 8]) -> i32;
     fn pthread_attr_getstack(attr: *const [u64; 8], base: *mut *mut u8, size: *mut usize) -> i32;
     fn pthread_attr_destroy(attr: *mut [u64; 8]) -> i32;
@@ -42,15 +48,24 @@ impl Outcome {
     }
 }
 
-fn library(l: &Lists, o: &mut Outcome) {
+/// A call of the archive.
+fn archive(split: unsafe extern "C" fn(), l: &Lists, o: &mut Outcome) {
     o.number = unsafe {
-        hatch_split(
+        std::mem::transmute::<unsafe extern "C" fn(), Split>(split)(
             l.costs.as_ptr(), l.costs.len(), l.starts.as_ptr(), l.starts.len(),
             l.ends.as_ptr(), l.ends.len(), l.widths.as_ptr(), l.widths.len(),
             l.k, l.limit, o.table.as_mut_ptr(), o.table.len(),
             o.ladder.as_mut_ptr(), o.ladder.len(), o.answer.as_mut_ptr(), 4,
         )
     };
+}
+
+fn first(l: &Lists, o: &mut Outcome) {
+    archive(first_split, l, o)
+}
+
+fn second(l: &Lists, o: &mut Outcome) {
+    archive(second_split, l, o)
 }
 
 fn reference(l: &Lists, o: &mut Outcome) {
@@ -60,11 +75,14 @@ fn reference(l: &Lists, o: &mut Outcome) {
             o.number = 0;
             o.answer = [s.cut as usize, s.rounds as usize, s.rung as usize, s.moves as usize];
         }
-        Err(_) => o.number = 1,
+        Err(r) => {
+            o.number = r.number;
+            o.answer[0] = r.place as usize;
+        }
     }
 }
 
-fn load(path: &std::path::Path) -> Lists {
+fn load(path: &Path) -> Lists {
     let text = std::fs::read(path).expect("a kit file");
     let (mut c, mut s, mut e, mut w) = ([0; 512], [0; 1024], [0; 1024], [0; 1024]);
     let kit = read_kit(&text, &mut c, &mut s, &mut e, &mut w).expect("a kit text");
@@ -78,15 +96,30 @@ fn load(path: &std::path::Path) -> Lists {
     }
 }
 
-fn timed(f: fn(&Lists, &mut Outcome), l: &Lists, o: &mut Outcome) -> f64 {
+type Call = fn(&Lists, &mut Outcome);
+
+fn timed(f: Call, l: &Lists, o: &mut Outcome) -> f64 {
     let start = Instant::now();
     f(black_box(l), black_box(o));
     start.elapsed().as_secs_f64() * 1e6
 }
 
-fn median(mut times: Vec<f64>) -> f64 {
+fn median(times: &mut [f64]) -> f64 {
     times.sort_by(f64::total_cmp);
     times[times.len() / 2]
+}
+
+/// The median microseconds of each call, one of each a turn, the first of a turn in rotation.
+fn medians(calls: &[Call], l: &Lists, turns: usize) -> Vec<f64> {
+    let mut outcome = Outcome::new();
+    let mut times = vec![Vec::with_capacity(turns); calls.len()];
+    for turn in 0..turns {
+        for i in 0..calls.len() {
+            let c = (turn + i) % calls.len();
+            times[c].push(timed(calls[c], l, &mut outcome));
+        }
+    }
+    times.iter_mut().map(|t| median(t)).collect()
 }
 
 /// Bytes of stack that a call of the library's split writes below its caller.
@@ -107,7 +140,7 @@ fn stack_of(l: &Lists) -> usize {
                 (p as *mut u8).write_volatile(MARK);
                 p += 1;
             }
-            library(l, &mut outcome);
+            first(l, &mut outcome);
             p = bottom;
             while p < top && (p as *const u8).read_volatile() == MARK {
                 p += 1;
@@ -118,34 +151,109 @@ fn stack_of(l: &Lists) -> usize {
     })
 }
 
+/// Ratios of a set of kits: their worst, whose it is, and their geometric mean.
+#[derive(Default)]
+struct Ratios {
+    kits: usize,
+    logs: f64,
+    worst: f64,
+    name: String,
+}
+
+impl Ratios {
+    fn add(&mut self, ratio: f64, name: &str) {
+        self.kits += 1;
+        self.logs += ratio.ln();
+        if ratio > self.worst {
+            (self.worst, self.name) = (ratio, name.to_string());
+        }
+    }
+
+    fn mean(&self) -> f64 {
+        (self.logs / self.kits.max(1) as f64).exp()
+    }
+}
+
+/// One kit's figures.
+struct Row {
+    name: String,
+    refused: bool,
+    times: Vec<f64>,
+}
+
+impl Row {
+    fn shape(&self) -> &str {
+        self.name.split('-').next().unwrap()
+    }
+}
+
+/// A line a shape and one for all: kits, worst ratio and mean of call `over` to call `under`.
+fn print_ratios(title: &str, rows: &[Row], over: usize, under: usize) {
+    let mut shapes: BTreeMap<&str, Ratios> = BTreeMap::new();
+    let (mut splits, mut refusals) = (Ratios::default(), Ratios::default());
+    for row in rows {
+        let ratio = row.times[over] / row.times[under];
+        shapes.entry(row.shape()).or_default().add(ratio, &row.name);
+        let all = if row.refused { &mut refusals } else { &mut splits };
+        all.add(ratio, &row.name);
+    }
+    println!("\n{title}\n{:<20} {:>4} {:>6} {:>6}  worst kit", "shape", "kits", "worst", "mean");
+    let totals = [("ALL REFUSED", &refusals), ("ALL SPLIT", &splits)];
+    for (shape, r) in shapes.iter().map(|(s, r)| (*s, r)).chain(totals) {
+        println!("{shape:<20} {:>4} {:>6.2} {:>6.2}  {}", r.kits, r.worst, r.mean(), r.name);
+    }
+}
+
+fn slowest(rows: &[Row], refused: bool, call: usize) -> String {
+    let of = rows.iter().filter(|r| r.refused == refused);
+    let row = of.max_by(|a, b| a.times[call].total_cmp(&b.times[call])).expect("a kit");
+    format!("{:.1} ({})", row.times[call], row.name)
+}
+
 fn main() {
     let args: Vec<String> = std::env::args().collect();
-    let turns: usize = args.get(2).map_or(301, |t| t.parse().expect("a number of turns"));
+    let turns: usize = args[2].parse().expect("a number of turns");
+    let two = args.get(3).is_some_and(|a| a == "two");
+    let (names, calls): (&[&str], &[Call]) = match two {
+        true => (&["library", "reference", "second"], &[first, reference, second]),
+        false => (&["library", "reference"], &[first, reference]),
+    };
     let mut files: Vec<_> = std::fs::read_dir(&args[1]).expect("a folder").map(|f| f.unwrap().path()).collect();
     files.sort();
-    println!("median of {turns} turns, microseconds a split");
-    println!("{:<28} {:>6} {:>6} {:>3} {:>9} {:>9} {:>6} {:>7}", "kit", "blocks", "wires", "k", "library", "reference", "ratio", "stack");
-    let (mut worst, mut deepest, mut differ) = (0.0f64, 0, 0);
+    let (mut rows, mut differ, mut deepest) = (Vec::new(), 0, 0);
     for file in &files {
-        let l = load(file);
-        let (mut a, mut b) = (Outcome::new(), Outcome::new());
-        library(&l, &mut a);
-        reference(&l, &mut b);
-        if a != b {
+        let (l, name) = (load(file), file.file_stem().unwrap().to_string_lossy().into_owned());
+        let outcomes: Vec<Outcome> = calls.iter().map(|call| {
+            let mut o = Outcome::new();
+            call(&l, &mut o);
+            o
+        }).collect();
+        if outcomes.iter().any(|o| *o != outcomes[0]) {
             differ += 1;
-            println!("{}: the answers differ", file.display());
+            println!("{name}: the answers differ");
         }
-        let (mut ours, mut theirs) = (Vec::new(), Vec::new());
-        for _ in 0..turns {
-            ours.push(timed(library, &l, &mut a));
-            theirs.push(timed(reference, &l, &mut b));
-        }
-        let (x, y, stack) = (median(ours), median(theirs), stack_of(&l));
-        worst = worst.max(x / y);
-        deepest = deepest.max(stack);
-        let name = file.file_stem().unwrap().to_string_lossy();
-        println!("{name:<28} {:>6} {:>6} {:>3} {x:>9.1} {y:>9.1} {:>6.2} {stack:>7}", l.costs.len(), l.starts.len(), l.k, x / y);
+        deepest = deepest.max(stack_of(&l));
+        rows.push(Row { name, refused: outcomes[0].number != 0, times: medians(calls, &l, turns) });
     }
-    println!("highest ratio {worst:.2}, most stack {deepest} bytes, {differ} answers differ");
+
+    let mut text = format!("median microseconds of {turns} turns: {}\n", names.join(", "));
+    for row in &rows {
+        let times: Vec<String> = row.times.iter().map(|t| format!("{t:9.1}")).collect();
+        writeln!(text, "{:<40} {} {:6.2}", row.name, times.join(" "), row.times[0] / row.times[1]).unwrap();
+    }
+    let path = Path::new(&args[1]).with_file_name("times.txt");
+    std::fs::write(&path, text).expect("a file for the times");
+
+    println!("medians of {turns} turns, one of each call a turn; each kit's times are in {}", path.display());
+    print_ratios("library / reference", &rows, 0, 1);
+    if two {
+        print_ratios("second / reference", &rows, 2, 1);
+        print_ratios("library / second", &rows, 0, 2);
+    }
+    println!();
+    for (call, name) in names.iter().enumerate() {
+        println!("{name}, microseconds: slowest split {}, slowest refused {}", slowest(&rows, false, call), slowest(&rows, true, call));
+    }
+    println!("most stack {deepest} bytes, {differ} answers differ");
     std::process::exit((differ > 0) as i32);
 }
