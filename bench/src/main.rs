@@ -206,8 +206,8 @@ fn print_ratios(title: &str, rows: &[Row], over: usize, under: usize) {
 
 fn slowest(rows: &[Row], refused: bool, call: usize) -> String {
     let of = rows.iter().filter(|r| r.refused == refused);
-    let row = of.max_by(|a, b| a.times[call].total_cmp(&b.times[call])).expect("a kit");
-    format!("{:.1} ({})", row.times[call], row.name)
+    let row = of.max_by(|a, b| a.times[call].total_cmp(&b.times[call]));
+    row.map_or("none".to_string(), |row| format!("{:.1} ({})", row.times[call], row.name))
 }
 
 fn main() {

@@ -1,6 +1,6 @@
 //! Refusals, and checks 1 to 8 of document 01.
 
-use crate::graph::{bucket, Edge, Graph};
+use crate::graph::{bucket, Graph, Link};
 
 pub const MAX_VERTICES: usize = 512;
 pub const MAX_EDGES: usize = 1024;
@@ -33,7 +33,7 @@ pub fn check(
     k: u32,
     bound: u32,
     room: impl Fn(usize) -> bool,
-) -> Result<(Graph, Vec<usize>), Refusal> {
+) -> Result<(Graph, Vec<u16>), Refusal> {
     let Lists { costs, starts, ends, widths } = lists;
     let (n, m) = (costs.len(), starts.len());
     if n == 0 || n > MAX_VERTICES {
@@ -57,12 +57,13 @@ pub fn check(
     if let Some(e) = (0..m).find(bad) {
         return refuse(6, e);
     }
-    if let Some(e) = lowest_repeat(n, starts, ends) {
+    let (first, items) = bucket(n, starts.iter().map(|&v| v as usize));
+    if let Some(e) = lowest_repeat(&first, &items, ends) {
         return refuse(7, e);
     }
-    let edge = |e: usize| Edge { from: starts[e] as usize, to: ends[e] as usize, width: widths[e] as u32 };
-    let edges: Vec<Edge> = (0..m).map(edge).collect();
-    let graph = Graph::new(costs.iter().map(|&c| c as u32).collect(), &edges);
+    let link = |&e: &u16| Link { vertex: ends[e as usize] as u32, width: widths[e as usize] as u32 };
+    let links = items.iter().map(link).collect();
+    let graph = Graph::grouped(costs.iter().map(|&c| c as u32).collect(), first, links);
     let order = graph.topological_order();
     if order.len() < n {
         let lowest = graph.lowest_on_cycle().expect("no order, so there is a cycle");
@@ -71,19 +72,20 @@ pub fn check(
     Ok((graph, order))
 }
 
-/// The lowest edge whose start and end an earlier edge has.
-fn lowest_repeat(n: usize, starts: &[u16], ends: &[u16]) -> Option<usize> {
-    let (first, items) = bucket(n, starts.iter().map(|&v| v as usize));
-    let mut seen_from = vec![usize::MAX; n];
-    let mut lowest = None;
+/// The lowest edge whose start and end an earlier edge has; the edges from v are the items
+/// from `first[v]` to `first[v + 1]`, lower ones first.
+fn lowest_repeat(first: &[u32], items: &[u16], ends: &[u16]) -> Option<usize> {
+    let n = first.len() - 2;
+    let mut seen_from = vec![u16::MAX; n];
+    let mut lowest = u16::MAX;
     for v in 0..n {
-        for &e in &items[first[v]..first[v + 1]] {
-            let end = ends[e] as usize;
-            if seen_from[end] == v {
-                lowest = lowest.into_iter().chain([e]).min();
+        for &e in &items[first[v] as usize..first[v + 1] as usize] {
+            let seen = &mut seen_from[ends[e as usize] as usize];
+            if *seen == v as u16 {
+                lowest = lowest.min(e);
             }
-            seen_from[end] = v;
+            *seen = v as u16;
         }
     }
-    lowest
+    (lowest < u16::MAX).then_some(lowest as usize)
 }

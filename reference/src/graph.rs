@@ -1,16 +1,22 @@
 //! Directed graphs held in adjacency arrays, one for each direction.
 
 /// One end of an edge, as seen from the other.
-#[derive(Clone, Copy, Debug)]
+#[derive(Clone, Copy, Debug, Default)]
 pub struct Link {
-    pub vertex: usize,
+    pub vertex: u32,
     pub width: u32,
+}
+
+impl Link {
+    pub fn at(&self) -> usize {
+        self.vertex as usize
+    }
 }
 
 #[derive(Clone, Copy, Debug)]
 pub struct Edge {
-    pub from: usize,
-    pub to: usize,
+    pub from: u32,
+    pub to: u32,
     pub width: u32,
 }
 
@@ -21,48 +27,70 @@ pub struct Graph {
 }
 
 struct Adjacency {
-    first: Vec<usize>,
+    first: Vec<u32>,
     links: Vec<Link>,
 }
 
 impl Adjacency {
-    fn new(n: usize, edges: &[Edge], ends: impl Fn(&Edge) -> (usize, usize)) -> Adjacency {
-        let (first, items) = bucket(n, edges.iter().map(|e| ends(e).0));
-        let link = |&i: &usize| Link { vertex: ends(&edges[i]).1, width: edges[i].width };
-        Adjacency { first, links: items.iter().map(link).collect() }
+    /// The same edges from their other ends, by a counting sort.
+    fn turned(&self, n: usize) -> Adjacency {
+        let mut first = starts_of(n, self.links.iter().map(Link::at));
+        let mut links = vec![Link::default(); self.links.len()];
+        for v in 0..n {
+            for link in self.of(v) {
+                let next = &mut first[link.at() + 1];
+                links[*next as usize] = Link { vertex: v as u32, width: link.width };
+                *next += 1;
+            }
+        }
+        Adjacency { first, links }
     }
 
     fn of(&self, v: usize) -> &[Link] {
-        &self.links[self.first[v]..self.first[v + 1]]
+        &self.links[self.first[v] as usize..self.first[v + 1] as usize]
+    }
+
+    fn degree(&self, v: usize) -> u32 {
+        self.first[v + 1] - self.first[v]
     }
 }
 
+/// For a counting sort that counts up in entry v + 1: where the items with key v begin.
+/// Once all are placed, those with key v lie from entry v to entry v + 1.
+fn starts_of(count: usize, keys: impl Iterator<Item = usize>) -> Vec<u32> {
+    let mut first = vec![0; count + 2];
+    for key in keys {
+        first[key + 2] += 1;
+    }
+    for v in 2..count + 2 {
+        first[v] += first[v - 1];
+    }
+    first
+}
+
 /// Stable counting sort: the items with key v are `items[first[v]..first[v + 1]]`.
-pub fn bucket(count: usize, keys: impl Iterator<Item = usize> + Clone) -> (Vec<usize>, Vec<usize>) {
-    let mut first = vec![0; count + 1];
-    for key in keys.clone() {
-        first[key + 1] += 1;
-    }
-    for v in 0..count {
-        first[v + 1] += first[v];
-    }
-    let mut next = first.clone();
-    let mut items = vec![0; first[count]];
+pub fn bucket(count: usize, keys: impl Iterator<Item = usize> + Clone) -> (Vec<u32>, Vec<u16>) {
+    let mut first = starts_of(count, keys.clone());
+    let mut items = vec![0; first[count + 1] as usize];
     for (i, key) in keys.enumerate() {
-        items[next[key]] = i;
-        next[key] += 1;
+        items[first[key + 1] as usize] = i as u16;
+        first[key + 1] += 1;
     }
     (first, items)
 }
 
 impl Graph {
     pub fn new(weights: Vec<u32>, edges: &[Edge]) -> Graph {
-        let n = weights.len();
-        Graph {
-            weights,
-            forward: Adjacency::new(n, edges, |e| (e.from, e.to)),
-            backward: Adjacency::new(n, edges, |e| (e.to, e.from)),
-        }
+        let (first, items) = bucket(weights.len(), edges.iter().map(|e| e.from as usize));
+        let link = |&i: &u16| Link { vertex: edges[i as usize].to, width: edges[i as usize].width };
+        Graph::grouped(weights, first, items.iter().map(link).collect())
+    }
+
+    /// The successors of v are the links from `first[v]` to `first[v + 1]`.
+    pub fn grouped(weights: Vec<u32>, first: Vec<u32>, links: Vec<Link>) -> Graph {
+        let forward = Adjacency { first, links };
+        let backward = forward.turned(weights.len());
+        Graph { weights, forward, backward }
     }
 
     pub fn size(&self) -> usize {
@@ -79,15 +107,23 @@ impl Graph {
         self.backward.of(v)
     }
 
+    pub fn receives_once(&self, v: usize) -> bool {
+        self.backward.degree(v) == 1
+    }
+
+    pub fn sends_once(&self, v: usize) -> bool {
+        self.forward.degree(v) == 1
+    }
+
     pub fn total_width(&self) -> u64 {
         self.forward.links.iter().map(|l| l.width as u64).sum()
     }
 
     /// Play order: always the lowest vertex whose predecessors have all been taken.
     /// Shorter than the graph exactly if there is a cycle.
-    pub fn topological_order(&self) -> Vec<usize> {
+    pub fn topological_order(&self) -> Vec<u16> {
         let n = self.size();
-        let mut waiting: Vec<usize> = (0..n).map(|v| self.predecessors(v).len()).collect();
+        let mut waiting: Vec<u32> = (0..n).map(|v| self.backward.degree(v)).collect();
         let mut ready = vec![0u64; n.div_ceil(64)];
         for v in (0..n).filter(|&v| waiting[v] == 0) {
             ready[v / 64] |= 1 << (v % 64);
@@ -101,12 +137,13 @@ impl Graph {
             }
             let v = 64 * word + ready[word].trailing_zeros() as usize;
             ready[word] &= ready[word] - 1;
-            order.push(v);
+            order.push(v as u16);
             for link in self.successors(v) {
-                waiting[link.vertex] -= 1;
-                if waiting[link.vertex] == 0 {
-                    ready[link.vertex / 64] |= 1 << (link.vertex % 64);
-                    word = word.min(link.vertex / 64);
+                let w = link.at();
+                waiting[w] -= 1;
+                if waiting[w] == 0 {
+                    ready[w / 64] |= 1 << (w % 64);
+                    word = word.min(w / 64);
                 }
             }
         }
@@ -114,11 +151,12 @@ impl Graph {
     }
 
     /// Edges on the longest path ending at each vertex, given a topological order.
-    pub fn levels(&self, order: &[usize]) -> Vec<u32> {
+    pub fn levels(&self, order: &[u16]) -> Vec<u16> {
         let mut level = vec![0; self.size()];
         for &v in order {
-            for link in self.successors(v) {
-                level[link.vertex] = level[link.vertex].max(level[v] + 1);
+            let next = level[v as usize] + 1;
+            for link in self.successors(v as usize) {
+                level[link.at()] = level[link.at()].max(next);
             }
         }
         level
@@ -126,28 +164,32 @@ impl Graph {
 
     /// The graph of the clusters; parallel edges become one with the summed width.
     pub fn contract(&self, cluster: &[u16], count: usize) -> Graph {
-        let (first, members) = bucket(count, cluster.iter().map(|&c| c as usize));
+        let (begins, members) = bucket(count, cluster.iter().map(|&c| c as usize));
         let mut weights = vec![0; count];
-        let mut edges: Vec<Edge> = Vec::with_capacity(self.forward.links.len());
-        let mut slot: Vec<Option<usize>> = vec![None; count]; // the last edge made to this cluster
+        let mut first = Vec::with_capacity(count + 1);
+        let mut links: Vec<Link> = Vec::with_capacity(self.forward.links.len());
+        let mut slot = vec![0; count]; // one past the last link made to this cluster
+        first.push(0);
         for from in 0..count {
-            let begin = edges.len();
-            for &v in &members[first[from]..first[from + 1]] {
-                weights[from] += self.weights[v];
-                for link in self.successors(v) {
-                    let to = cluster[link.vertex] as usize;
-                    match slot[to] {
-                        _ if to == from => {}
-                        Some(i) if i >= begin => edges[i].width += link.width,
-                        _ => {
-                            slot[to] = Some(edges.len());
-                            edges.push(Edge { from, to, width: link.width });
-                        }
+            let begin = links.len();
+            for &v in &members[begins[from] as usize..begins[from + 1] as usize] {
+                weights[from] += self.weights[v as usize];
+                for link in self.successors(v as usize) {
+                    let to = cluster[link.at()] as usize;
+                    if to == from {
+                        continue;
+                    }
+                    if slot[to] > begin {
+                        links[slot[to] - 1].width += link.width;
+                    } else {
+                        links.push(Link { vertex: to as u32, width: link.width });
+                        slot[to] = links.len();
                     }
                 }
             }
+            first.push(links.len() as u32);
         }
-        Graph::new(weights, &edges)
+        Graph::grouped(weights, first, links)
     }
 
     /// The lowest vertex on a cycle, by Tarjan's strongly connected components.
@@ -168,7 +210,7 @@ impl Graph {
                 }
                 if let Some(link) = self.successors(v).get(*next) {
                     *next += 1;
-                    let w = link.vertex;
+                    let w = link.at();
                     if found[w] == 0 {
                         path.push((w, 0));
                     } else {

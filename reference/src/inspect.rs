@@ -32,7 +32,7 @@ pub fn inspect(
         return refuse(13, p);
     }
     for (place, p) in quotient.topological_order().into_iter().enumerate() {
-        order[place] = p as u16;
+        order[place] = p;
     }
     Ok(quotient.total_width())
 }

@@ -82,10 +82,10 @@ fn write_rows(levels: &[Level], n: usize, ladder: &mut [u16]) {
     for (b, entry) in ladder[..n].iter_mut().enumerate() {
         *entry = b as u16;
     }
-    for rung in 1..levels.len() {
-        for b in 0..n {
-            let below = ladder[(rung - 1) * n + b] as usize;
-            ladder[rung * n + b] = levels[rung - 1].cluster[below];
+    for (rung, level) in levels[..levels.len() - 1].iter().enumerate() {
+        let (below, above) = ladder[rung * n..(rung + 2) * n].split_at_mut(n);
+        for (entry, &b) in above.iter_mut().zip(&*below) {
+            *entry = level.cluster[b as usize];
         }
     }
 }

@@ -1,6 +1,6 @@
 //! Moves of single vertices between parts, on one rung.
 
-use crate::graph::Graph;
+use crate::graph::{Graph, Link};
 
 #[derive(Clone, Copy, Debug)]
 pub struct Move {
@@ -40,18 +40,18 @@ pub fn refine(
 fn best_move(graph: &Graph, parts: &[u16], loads: &[u32], bound: u32, vertex: usize) -> Option<Move> {
     let from = parts[vertex];
     let weight = graph.weights[vertex];
-    let part = |l: &crate::graph::Link| parts[l.vertex];
-    let back = graph.predecessors(vertex).iter().map(part).max().filter(|&p| p < from);
-    let ahead = graph.successors(vertex).iter().map(part).min().filter(|&p| p > from);
+    if loads[from as usize] == weight {
+        return None; // it would be emptied
+    }
+    let part = |l: &Link| parts[l.at()];
+    let fits = |&p: &u16| loads[p as usize] + weight <= bound;
+    let back = graph.predecessors(vertex).iter().map(part).max().filter(|&p| p < from).filter(fits);
+    let ahead = graph.successors(vertex).iter().map(part).min().filter(|&p| p > from).filter(fits);
     let mut best: Option<Move> = None;
     for to in [back, ahead].into_iter().flatten() {
-        let fits = loads[to as usize] + weight <= bound;
-        let empties = loads[from as usize] == weight;
-        if fits && !empties {
-            let gain = gain(graph, parts, vertex, to);
-            if gain > best.map_or(0, |b| b.gain) {
-                best = Some(Move { vertex, from, to, gain });
-            }
+        let gain = gain(graph, parts, vertex, to);
+        if gain > best.map_or(0, |b| b.gain) {
+            best = Some(Move { vertex, from, to, gain });
         }
     }
     best
@@ -61,7 +61,7 @@ fn gain(graph: &Graph, parts: &[u16], vertex: usize, to: u16) -> i64 {
     let from = parts[vertex];
     let links = graph.predecessors(vertex).iter().chain(graph.successors(vertex));
     links
-        .map(|l| match parts[l.vertex] {
+        .map(|l| match parts[l.at()] {
             p if p == to => l.width as i64,
             p if p == from => -(l.width as i64),
             _ => 0,

@@ -131,7 +131,11 @@ fn first_cut_is_the_least_and_first_on_every_rung() {
         let (k, limit) = (kit.k as usize, kit.limit);
         for level in &levels {
             let rung = naive_copy(&level.graph);
-            assert_eq!(rung.play_order(), level.order, "index {index}");
+            assert_eq!(
+                rung.play_order(),
+                level.order.iter().map(|&v| v as usize).collect::<Vec<_>>(),
+                "index {index}"
+            );
             let divisions = rung.divisions(k, limit as u64);
             let cuts: Vec<u64> = divisions.iter().map(|d| naive::widths_between(&rung, d)).collect();
             let least = cuts.iter().min();
@@ -299,11 +303,8 @@ fn disturb(r: &mut Rng, kit: &mut Small) {
 
 fn levels(index: u64) -> (Small, Vec<coarsen::Level>) {
     let kit = sound(&mut Rng::new(4, index));
-    let edge = |e: usize| Edge {
-        from: kit.starts[e] as usize,
-        to: kit.ends[e] as usize,
-        width: kit.widths[e] as u32,
-    };
+    let edge =
+        |e: usize| Edge { from: kit.starts[e] as u32, to: kit.ends[e] as u32, width: kit.widths[e] as u32 };
     let edges: Vec<Edge> = (0..kit.starts.len()).map(edge).collect();
     let graph = Graph::new(kit.costs.iter().map(|&c| c as u32).collect(), &edges);
     let order = graph.topological_order();
@@ -315,7 +316,7 @@ fn naive_copy(graph: &Graph) -> naive::Rung {
     let mut wires = std::collections::BTreeMap::new();
     for u in 0..graph.size() {
         for link in graph.successors(u) {
-            assert_eq!(wires.insert((u, link.vertex), link.width as u64), None);
+            assert_eq!(wires.insert((u, link.at()), link.width as u64), None);
         }
     }
     naive::Rung { costs: graph.weights.iter().map(|&w| w as u64).collect(), wires }
