@@ -1,5 +1,5 @@
 /* A loader: reads a kit file, splits it, and starts its stages; on a refusal it starts nothing.
- * Build: cc -Iinclude examples/loader.c target/staticlib/libexport.a -o loader */
+ * Build: cc -Iinclude examples/loader.c target/staticlib/libhatchraisin.a -o loader */
 #include <stdio.h>
 #include "hatchraisin.h"
 
@@ -50,14 +50,13 @@ int main(int argc, char **argv)
         return 2;
 
     uint32_t number = hatch_read(text, len, costs, HATCH_BLOCKS, starts, HATCH_WIRES,
-                                 ends, HATCH_WIRES, widths, HATCH_WIRES, kit, HATCH_READ_ANSWER);
+                                 ends, HATCH_WIRES, widths, HATCH_WIRES, kit);
     if (number)
         return refused(number, kit[0]);
 
     size_t n = kit[0], m = kit[1], k = kit[2];
     number = hatch_split(costs, n, starts, m, ends, m, widths, m, k, (uint32_t)kit[3],
-                         table, HATCH_BLOCKS, ladder, HATCH_ROWS * HATCH_BLOCKS,
-                         answer, HATCH_SPLIT_ANSWER);
+                         table, HATCH_BLOCKS, ladder, HATCH_ROWS * HATCH_BLOCKS, answer);
     if (number) /* the table still holds the previous song: do not start */
         return refused(number, answer[0]);
 

@@ -61,10 +61,10 @@ static void kit(size_t n, const size_t m[3], size_t k, uint32_t limit, size_t t,
 {
     fresh();
     uint32_t number = hatch_split(n ? lists[0] : NULL, n, m[0] ? lists[1] : NULL, m[0], m[1] ? lists[2] : NULL, m[1],
-                                  m[2] ? lists[3] : NULL, m[2], k, limit, table, t, ladder, l, answer, 4);
+                                  m[2] ? lists[3] : NULL, m[2], k, limit, table, t, ladder, l, answer);
     DEMAND(number <= 9);
     returned[number]++;
-    answers(number ? 1 : 4);
+    answers(4);
     size_t rows = number == 0 ? answer[1] + 1 : number == 9 ? 9 : 0;
     DEMAND(guarded(table, number ? 0 : n, MOST + PAD));
     DEMAND(guarded(ladder, rows * n, HATCH_ROWS * MOST + PAD));
@@ -72,7 +72,7 @@ static void kit(size_t n, const size_t m[3], size_t k, uint32_t limit, size_t t,
         return;
     size_t cut = answer[0];
     DEMAND(answer[1] <= 8 && answer[2] <= answer[1]);
-    number = hatch_inspect(lists[0], n, lists[1], m[0], lists[2], m[1], lists[3], m[2], k, limit, table, n, order, k, answer, 1);
+    number = hatch_inspect(lists[0], n, lists[1], m[0], lists[2], m[1], lists[3], m[2], k, limit, table, n, order, k, answer);
     DEMAND(number == 0 && answer[0] == cut && guarded(order, k, 64 + PAD));
     for (size_t s = 0; s < k; s++)
         DEMAND(order[s] < k);
@@ -85,7 +85,7 @@ static void tabled(const uint8_t *data, size_t size, size_t n, size_t m, size_t 
     fresh();
     for (size_t i = 0; i < n; i++)
         table[i] = size ? data[i % size] % (k + 1) : 0;
-    uint32_t number = hatch_inspect(lists[0], n, lists[1], m, lists[2], m, lists[3], m, k, limit, table, n, order, o, answer, 1);
+    uint32_t number = hatch_inspect(lists[0], n, lists[1], m, lists[2], m, lists[3], m, k, limit, table, n, order, o, answer);
     DEMAND(number != 9 && number <= 13);
     returned[number]++;
     DEMAND(guarded(order, number ? 0 : k, 64 + PAD) && guarded(table, n, MOST + PAD));
@@ -98,14 +98,14 @@ static void text(const uint8_t *data, size_t size)
     for (size_t i = 0; i < 4; i++)
         fill(lists[i], MOST);
     fresh();
-    uint32_t number = hatch_read(data, size, lists[0], HATCH_BLOCKS, lists[1], HATCH_WIRES, lists[2], HATCH_WIRES, lists[3], HATCH_WIRES, answer, 4);
+    uint32_t number = hatch_read(data, size, lists[0], HATCH_BLOCKS, lists[1], HATCH_WIRES, lists[2], HATCH_WIRES, lists[3], HATCH_WIRES, answer);
     DEMAND(number == 0 || (number >= 14 && number <= 16));
     returned[number]++;
     size_t n = number ? 0 : answer[0], m = number ? 0 : answer[1];
     DEMAND(guarded(lists[0], n, MOST));
     for (size_t i = 1; i < 4; i++)
         DEMAND(guarded(lists[i], m, MOST));
-    answers(number ? 1 : 4);
+    answers(4);
     if (number == 0)
         kit(n, (size_t[]){m, m, m}, answer[2], (uint32_t)answer[3], HATCH_BLOCKS, HATCH_ROWS * HATCH_BLOCKS, 16);
 }

@@ -1,6 +1,6 @@
 /* hatchraisin.h: the stage splitter's calls, for the player's loader and the bench.
  *
- * Link with target/staticlib/libexport.a (`rt staticlib export`), x86-64.
+ * Link with target/staticlib/libhatchraisin.a (`rt staticlib hatchraisin` makes it), x86-64.
  *
  * A kit has n blocks, 1 to 512, each with a cost, and m wires, 0 to 1,024, each with a
  * start, an end and a width. It is to run as k stages, 1 to 16, none above the limit.
@@ -15,12 +15,11 @@
  *   about 78,000 bytes of stack, whatever the kit (bench/run prints the figure).
  *
  * What is answered
- *   Each call returns 0, or the number of the refusal (below). It writes the answer's
- *   numbers, or the place of the refusal, to the front of `answer`:
- *     0        as said at each call
- *     1 to 16  answer[0] is the place: a block, wire, stage or line as the table says
- *   If `answer` has fewer entries than the call asks for, it returns 4 before it looks at
- *   anything else, and nothing at all is written.
+ *   Each call returns 0, or the number of the refusal (below). `answer` is never NULL and
+ *   has the number of cells that the call names; the call writes each of them, always:
+ *     0        the values said at the call
+ *     1 to 16  answer[0] is the place: a block, wire, stage or line as the table says;
+ *              the other cells are 0
  *   Entries of any table past those named at a call are never written.
  *
  * A REFUSAL LEAVES THE PREVIOUS TABLE IN PLACE. The stage table then still holds what it
@@ -44,7 +43,7 @@ enum {
     HATCH_STAGES = 16,      /* most stages */
     HATCH_ROWS = 9,         /* rows of the ladder, n entries each */
     HATCH_TEXT = 65536,     /* most bytes of a kit text */
-    HATCH_SPLIT_ANSWER = 4, /* least entries of `answer` */
+    HATCH_SPLIT_ANSWER = 4, /* cells of `answer` */
     HATCH_INSPECT_ANSWER = 1,
     HATCH_READ_ANSWER = 4
 };
@@ -73,7 +72,7 @@ enum {
 /* Splits a kit into k stages.
  *
  * costs[n]; starts, ends, widths[m]: the kit. table: at least n entries.
- * ladder: at least 9 * n entries. answer: at least 4 entries.
+ * ladder: at least 9 * n entries.
  *
  * 0: table[0 .. n-1] is each block's stage, 0 to k-1. ladder[r*n .. r*n + n-1] is each
  *    block's group on rung r, for r from 0 to the rounds kept; later rows are untouched.
@@ -87,11 +86,11 @@ uint32_t hatch_split(const uint16_t *costs, size_t costs_len,
                      size_t k, uint32_t limit,
                      uint16_t *table, size_t table_len,
                      uint16_t *ladder, size_t ladder_len,
-                     size_t *answer, size_t answer_len);
+                     size_t answer[HATCH_SPLIT_ANSWER]);
 
 /* Inspects a stage table, whichever program made it. It only reads the table.
  *
- * table: at least n entries. order: at least k entries. answer: at least 1 entry.
+ * table: at least n entries. order: at least k entries.
  *
  * 0: order[0 .. k-1] lists the stages in the order in which to start them.
  *    answer: the cut.
@@ -103,10 +102,10 @@ uint32_t hatch_inspect(const uint16_t *costs, size_t costs_len,
                        size_t k, uint32_t limit,
                        const uint16_t *table, size_t table_len,
                        uint16_t *order, size_t order_len,
-                       size_t *answer, size_t answer_len);
+                       size_t answer[HATCH_INSPECT_ANSWER]);
 
-/* Reads a kit text into four lists. answer: at least 4 entries. Lists of 512 and 1,024
- * entries are long enough for every text.
+/* Reads a kit text into four lists. Lists of 512 and 1,024 entries are long enough for
+ * every text.
  *
  * 0: costs[0 .. n-1] and the first m entries of starts, ends and widths are the kit's.
  *    answer: n, m, the stage count, the limit. The kit is of the form; whether it is
@@ -117,7 +116,7 @@ uint32_t hatch_read(const uint8_t *text, size_t text_len,
                     uint16_t *starts, size_t starts_len,
                     uint16_t *ends, size_t ends_len,
                     uint16_t *widths, size_t widths_len,
-                    size_t *answer, size_t answer_len);
+                    size_t answer[HATCH_READ_ANSWER]);
 
 #ifdef __cplusplus
 }

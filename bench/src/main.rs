@@ -13,7 +13,7 @@ type Split = unsafe extern "C" fn(
     ends: *const u16, ends_len: usize, widths: *const u16, widths_len: usize,
     k: usize, limit: u32, table: *mut u16, table_len: usize,
     ladder: *mut u16, ladder_len: usize, answer: *mut usize, answer_len: usize,
-) -> u32;
+) -> u32; // answer_len is for an older archive as the second: a call without it does not look there
 
 extern "C" {
     fn first_split();
@@ -77,7 +77,7 @@ fn reference(l: &Lists, o: &mut Outcome) {
         }
         Err(r) => {
             o.number = r.number;
-            o.answer[0] = r.place as usize;
+            o.answer = [r.place as usize, 0, 0, 0];
         }
     }
 }

@@ -78,8 +78,13 @@ pub fn kit(index: u32) -> Lent {
     Lent { kit: Instance { weights, edges, k, bound }, short_parts, short_ladder, short_widths }
 }
 
-/// One line for every 32 kits: how many so far, and the digest so far.
+/// The digest's lines of this implementation.
 pub fn lines() -> String {
+    lines_of(values)
+}
+
+/// One line for every 32 kits: how many so far, and the digest so far of the values of each.
+pub fn lines_of(values: impl Fn(&Lent) -> Vec<u64>) -> String {
     let mut out = String::new();
     let mut digest = 0;
     for index in 0..KITS {

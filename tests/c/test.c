@@ -52,6 +52,15 @@ static int answer_guarded(size_t from)
     return 1;
 }
 
+/* a refusal in so many cells: the place, then 0; no other cell is written */
+static int place_told(size_t place, size_t cells)
+{
+    for (size_t i = 1; i < cells; i++)
+        if (answer[i] != 0)
+            return 0;
+    return answer[0] == place && answer_guarded(cells);
+}
+
 /* n blocks of cost 1 and no wires */
 static void plain(size_t blocks, size_t stages, uint32_t bound)
 {
@@ -66,25 +75,24 @@ static void wire(uint16_t a, uint16_t b, uint16_t w)
     m++;
 }
 
-static uint32_t split_with(size_t w, size_t t, size_t l, size_t a)
+static uint32_t split_with(size_t w, size_t t, size_t l)
 {
-    return hatch_split(n ? costs : NULL, n, m ? starts : NULL, m, m ? ends : NULL, m, w ? widths : NULL, w, k, limit, table, t, ladder, l, answer, a);
+    return hatch_split(n ? costs : NULL, n, m ? starts : NULL, m, m ? ends : NULL, m, w ? widths : NULL, w, k, limit, table, t, ladder, l, answer);
 }
 
-static uint32_t inspect_with(size_t t, size_t o, size_t a)
+static uint32_t inspect_with(size_t t, size_t o)
 {
-    return hatch_inspect(n ? costs : NULL, n, m ? starts : NULL, m, m ? ends : NULL, m, m ? widths : NULL, m, k, limit, table, t, order, o, answer, a);
+    return hatch_inspect(n ? costs : NULL, n, m ? starts : NULL, m, m ? ends : NULL, m, m ? widths : NULL, m, k, limit, table, t, order, o, answer);
 }
 
-static void is_refused(int line, uint32_t got, uint32_t number, size_t place, int ladder_kept)
+static void is_refused(int line, uint32_t got, uint32_t number, size_t place, size_t cells)
 {
     if (number < 17)
         hit[number]++;
     expect(got == number, "the refusal's number", line);
-    expect(answer[0] == place, "the refusal's place", line);
-    expect(answer_guarded(1), "the answer past the place is untouched", line);
+    expect(place_told(place, cells), "the refusal's place, and 0 in the cells past it", line);
     expect(guarded(table, 0, HATCH_BLOCKS + PAD), "the table is untouched", line);
-    if (ladder_kept)
+    if (number != 9)
         expect(guarded(ladder, 0, HATCH_ROWS * HATCH_BLOCKS + PAD), "the ladder is untouched", line);
 }
 
@@ -92,9 +100,9 @@ static void is_refused(int line, uint32_t got, uint32_t number, size_t place, in
 #define KIT_REFUSED(number, place)                                                        \
     do {                                                                                  \
         fresh();                                                                          \
-        is_refused(__LINE__, split_with(m, n, 9 * n, 4), number, place, 1);               \
+        is_refused(__LINE__, split_with(m, n, 9 * n), number, place, 4);               \
         fresh();                                                                          \
-        is_refused(__LINE__, inspect_with(n, k, 1), number, place, 1);                    \
+        is_refused(__LINE__, inspect_with(n, k), number, place, 1);                    \
         EXPECT(guarded(order, 0, HATCH_STAGES + PAD));                                    \
     } while (0)
 
@@ -104,34 +112,34 @@ static void kits_refused(void)
     KIT_REFUSED(1, 0);
     plain(513, 1, 9999);
     fresh();
-    is_refused(__LINE__, split_with(m, HATCH_BLOCKS, HATCH_ROWS * HATCH_BLOCKS, 4), 1, 0, 1);
+    is_refused(__LINE__, split_with(m, HATCH_BLOCKS, HATCH_ROWS * HATCH_BLOCKS), 1, 0, 4);
     plain(4, 0, 9);
     KIT_REFUSED(2, 0);
     plain(4, 5, 9);
     KIT_REFUSED(2, 0);
     plain(17, 17, 9);
     fresh();
-    is_refused(__LINE__, split_with(m, n, 9 * n, 4), 2, 0, 1);
+    is_refused(__LINE__, split_with(m, n, 9 * n), 2, 0, 4);
 
     plain(4, 2, 9);
     wire(0, 1, 1);
     fresh();
-    is_refused(__LINE__, split_with(0, n, 9 * n, 4), 3, 0, 1);
+    is_refused(__LINE__, split_with(0, n, 9 * n), 3, 0, 4);
     plain(512, 2, 9999);
     for (uint16_t i = 0; m < 1025; i++)
         wire(i % 511, i % 511 + 1, 1);
     fresh();
-    is_refused(__LINE__, split_with(m, n, 9 * n, 4), 3, 0, 1);
+    is_refused(__LINE__, split_with(m, n, 9 * n), 3, 0, 4);
 
     plain(4, 2, 9);
     fresh();
-    is_refused(__LINE__, split_with(0, n - 1, 9 * n, 4), 4, 0, 1);
+    is_refused(__LINE__, split_with(0, n - 1, 9 * n), 4, 0, 4);
     fresh();
-    is_refused(__LINE__, split_with(0, n, 9 * n - 1, 4), 4, 0, 1);
+    is_refused(__LINE__, split_with(0, n, 9 * n - 1), 4, 0, 4);
     fresh();
-    is_refused(__LINE__, inspect_with(n - 1, k, 1), 4, 0, 1);
+    is_refused(__LINE__, inspect_with(n - 1, k), 4, 0, 1);
     fresh();
-    is_refused(__LINE__, inspect_with(n, k - 1, 1), 4, 0, 1);
+    is_refused(__LINE__, inspect_with(n, k - 1), 4, 0, 1);
 
     plain(4, 2, 9);
     costs[2] = 0;
@@ -157,27 +165,13 @@ static void kits_refused(void)
     KIT_REFUSED(8, 0);
 }
 
-/* an answer array that is too short: 4, and nothing at all is written */
-static void short_answer(void)
-{
-    plain(4, 2, 9);
-    for (size_t a = 0; a < 4; a++) {
-        fresh();
-        EXPECT(split_with(0, n, 9 * n, a) == 4);
-        EXPECT(answer_guarded(0) && guarded(table, 0, HATCH_BLOCKS) && guarded(ladder, 0, HATCH_ROWS * HATCH_BLOCKS));
-    }
-    fresh();
-    EXPECT(inspect_with(n, k, 0) == 4);
-    EXPECT(answer_guarded(0) && guarded(order, 0, HATCH_STAGES));
-}
-
 /* case 5 of the document: 9 leaves the table, and the ladder holds its rows */
 static void uncut(void)
 {
     plain(3, 2, 4);
     costs[0] = 2, costs[1] = 4, costs[2] = 2;
     fresh();
-    is_refused(__LINE__, split_with(0, n, 9 * n, 4), 9, 0, 0);
+    is_refused(__LINE__, split_with(0, n, 9 * n), 9, 0, 4);
     EXPECT(ladder[0] == 0 && ladder[1] == 1 && ladder[2] == 2);
     EXPECT(guarded(ladder, 3, HATCH_ROWS * HATCH_BLOCKS + PAD));
 }
@@ -189,12 +183,11 @@ static void inspected(int line, const uint16_t *parts, uint32_t number, size_t p
     fresh();
     memcpy(table, parts, n * sizeof *parts);
     memcpy(before, table, sizeof before);
-    uint32_t got = inspect_with(n, k, 1);
+    uint32_t got = inspect_with(n, k);
     if (number)
         hit[number]++;
     expect(got == number, "the verdict's number", line);
-    expect(answer[0] == place, "the verdict's place or cut", line);
-    expect(answer_guarded(1), "the answer past its front is untouched", line);
+    expect(place_told(place, 1), "the verdict's place or cut", line);
     expect(!memcmp(before, table, sizeof before), "the inspected table is untouched", line);
     expect(guarded(order, number ? 0 : k, HATCH_STAGES + PAD), "the order past its entries is untouched", line);
 }
@@ -220,7 +213,7 @@ static void sound(void)
     plain(6, 2, 4);
     wire(0, 1, 4), wire(1, 2, 1), wire(2, 3, 4), wire(3, 4, 1), wire(4, 5, 4);
     fresh();
-    EXPECT(split_with(m, HATCH_BLOCKS, HATCH_ROWS * HATCH_BLOCKS, 4) == 0);
+    EXPECT(split_with(m, HATCH_BLOCKS, HATCH_ROWS * HATCH_BLOCKS) == 0);
     EXPECT(answer[0] == 1 && answer[1] == 1 && answer[2] == 1 && answer[3] == 0 && answer_guarded(4));
     EXPECT(!memcmp(table, stages, sizeof stages) && guarded(table, n, HATCH_BLOCKS + PAD));
     EXPECT(!memcmp(ladder + n, groups, sizeof groups) && guarded(ladder, 2 * n, HATCH_ROWS * HATCH_BLOCKS + PAD));
@@ -237,31 +230,31 @@ static void largest(void)
     wire(0, 3, 1), wire(1, 4, 1), wire(2, 5, 1);
     EXPECT(m == 1024);
     fresh();
-    EXPECT(split_with(m, n, 9 * n, 4) == 0);
+    EXPECT(split_with(m, n, 9 * n) == 0);
     EXPECT(answer_guarded(4) && guarded(table, n, HATCH_BLOCKS + PAD) && guarded(ladder, (answer[1] + 1) * n, HATCH_ROWS * HATCH_BLOCKS + PAD));
     size_t cut = answer[0];
-    EXPECT(inspect_with(n, k, 1) == 0);
+    EXPECT(inspect_with(n, k) == 0);
     EXPECT(answer[0] == cut && guarded(order, k, HATCH_STAGES + PAD));
     for (size_t s = 0; s < k; s++)
         EXPECT(order[s] == s);
 }
 
 #ifndef NO_READ
-static uint32_t read_with(const char *text, size_t len, size_t c, size_t w, size_t a)
+static uint32_t read_with(const char *text, size_t len, size_t c, size_t w)
 {
     fresh();
     fill(costs, HATCH_BLOCKS + 1 + PAD);
     fill(starts, HATCH_WIRES + 1 + PAD);
     fill(ends, HATCH_WIRES + 1 + PAD);
     fill(widths, HATCH_WIRES + 1 + PAD);
-    return hatch_read((const uint8_t *)text, len, costs, c, starts, w, ends, w, widths, w, answer, a);
+    return hatch_read((const uint8_t *)text, len, costs, c, starts, w, ends, w, widths, w, answer);
 }
 
 static void read_refused(int line, const char *text, size_t len, size_t c, size_t w, uint32_t number, size_t place)
 {
-    uint32_t got = read_with(text, len, c, w, 4);
+    uint32_t got = read_with(text, len, c, w);
     hit[number]++;
-    expect(got == number && answer[0] == place && answer_guarded(1), "the refusal of a text", line);
+    expect(got == number && place_told(place, 4), "the refusal of a text", line);
     expect(guarded(costs, 0, HATCH_BLOCKS + PAD) && guarded(starts, 0, HATCH_WIRES + PAD) && guarded(ends, 0, HATCH_WIRES + PAD) && guarded(widths, 0, HATCH_WIRES + PAD), "the lists are untouched", line);
 }
 
@@ -276,8 +269,7 @@ static void texts(void)
     read_refused(__LINE__, few, strlen(few), HATCH_BLOCKS, HATCH_WIRES, 16, 0);
     read_refused(__LINE__, kit, strlen(kit), 1, HATCH_WIRES, 4, 0);
     read_refused(__LINE__, kit, strlen(kit), 2, 0, 4, 0);
-    EXPECT(read_with(kit, strlen(kit), 2, 1, 3) == 4 && answer_guarded(0) && guarded(costs, 0, HATCH_BLOCKS));
-    EXPECT(read_with(kit, strlen(kit), 2, 1, 4) == 0);
+    EXPECT(read_with(kit, strlen(kit), 2, 1) == 0);
     EXPECT(answer[0] == 2 && answer[1] == 1 && answer[2] == 1 && answer[3] == 9 && answer_guarded(4));
     EXPECT(costs[0] == 1 && costs[1] == 3 && guarded(costs, 2, HATCH_BLOCKS + PAD));
     EXPECT(starts[0] == 0 && ends[0] == 1 && widths[0] == 5);
@@ -289,7 +281,6 @@ int main(void)
 {
     size_t last = 13;
     kits_refused();
-    short_answer();
     uncut();
     tables();
     sound();
