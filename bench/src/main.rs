@@ -9,10 +9,22 @@ use std::path::Path;
 use std::time::Instant;
 
 type Split = unsafe extern "C" fn(
-    costs: *const u16, costs_len: usize, starts: *const u16, starts_len: usize,
-    ends: *const u16, ends_len: usize, widths: *const u16, widths_len: usize,
-    k: usize, limit: u32, table: *mut u16, table_len: usize,
-    ladder: *mut u16, ladder_len: usize, answer: *mut usize, answer_len: usize,
+    costs: *const u16,
+    costs_len: usize,
+    starts: *const u16,
+    starts_len: usize,
+    ends: *const u16,
+    ends_len: usize,
+    widths: *const u16,
+    widths_len: usize,
+    k: usize,
+    limit: u32,
+    table: *mut u16,
+    table_len: usize,
+    ladder: *mut u16,
+    ladder_len: usize,
+    answer: *mut usize,
+    answer_len: usize,
 ) -> u32; // answer_len is for an older archive as the second: a call without it does not look there
 
 extern "C" {
@@ -52,10 +64,22 @@ impl Outcome {
 fn archive(split: unsafe extern "C" fn(), l: &Lists, o: &mut Outcome) {
     o.number = unsafe {
         std::mem::transmute::<unsafe extern "C" fn(), Split>(split)(
-            l.costs.as_ptr(), l.costs.len(), l.starts.as_ptr(), l.starts.len(),
-            l.ends.as_ptr(), l.ends.len(), l.widths.as_ptr(), l.widths.len(),
-            l.k, l.limit, o.table.as_mut_ptr(), o.table.len(),
-            o.ladder.as_mut_ptr(), o.ladder.len(), o.answer.as_mut_ptr(), 4,
+            l.costs.as_ptr(),
+            l.costs.len(),
+            l.starts.as_ptr(),
+            l.starts.len(),
+            l.ends.as_ptr(),
+            l.ends.len(),
+            l.widths.as_ptr(),
+            l.widths.len(),
+            l.k,
+            l.limit,
+            o.table.as_mut_ptr(),
+            o.table.len(),
+            o.ladder.as_mut_ptr(),
+            o.ladder.len(),
+            o.answer.as_mut_ptr(),
+            4,
         )
     };
 }
@@ -69,7 +93,16 @@ fn second(l: &Lists, o: &mut Outcome) {
 }
 
 fn reference(l: &Lists, o: &mut Outcome) {
-    let r = reference::split(&l.costs, &l.starts, &l.ends, &l.widths, l.k as u32, l.limit, &mut o.table, &mut o.ladder);
+    let r = reference::split(
+        &l.costs,
+        &l.starts,
+        &l.ends,
+        &l.widths,
+        l.k as u32,
+        l.limit,
+        &mut o.table,
+        &mut o.ladder,
+    );
     match r {
         Ok(s) => {
             o.number = 0;
@@ -218,16 +251,20 @@ fn main() {
         true => (&["library", "reference", "second"], &[first, reference, second]),
         false => (&["library", "reference"], &[first, reference]),
     };
-    let mut files: Vec<_> = std::fs::read_dir(&args[1]).expect("a folder").map(|f| f.unwrap().path()).collect();
+    let mut files: Vec<_> =
+        std::fs::read_dir(&args[1]).expect("a folder").map(|f| f.unwrap().path()).collect();
     files.sort();
     let (mut rows, mut differ, mut deepest) = (Vec::new(), 0, 0);
     for file in &files {
         let (l, name) = (load(file), file.file_stem().unwrap().to_string_lossy().into_owned());
-        let outcomes: Vec<Outcome> = calls.iter().map(|call| {
-            let mut o = Outcome::new();
-            call(&l, &mut o);
-            o
-        }).collect();
+        let outcomes: Vec<Outcome> = calls
+            .iter()
+            .map(|call| {
+                let mut o = Outcome::new();
+                call(&l, &mut o);
+                o
+            })
+            .collect();
         if outcomes.iter().any(|o| *o != outcomes[0]) {
             differ += 1;
             println!("{name}: the answers differ");
@@ -252,7 +289,11 @@ fn main() {
     }
     println!();
     for (call, name) in names.iter().enumerate() {
-        println!("{name}, microseconds: slowest split {}, slowest refused {}", slowest(&rows, false, call), slowest(&rows, true, call));
+        println!(
+            "{name}, microseconds: slowest split {}, slowest refused {}",
+            slowest(&rows, false, call),
+            slowest(&rows, true, call)
+        );
     }
     println!("most stack {deepest} bytes, {differ} answers differ");
     std::process::exit((differ > 0) as i32);

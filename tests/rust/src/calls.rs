@@ -5,21 +5,51 @@ use reference::Refusal;
 
 extern "C" {
     fn hatch_split(
-        costs: *const u16, costs_len: usize, starts: *const u16, starts_len: usize,
-        ends: *const u16, ends_len: usize, widths: *const u16, widths_len: usize,
-        k: usize, limit: u32, table: *mut u16, table_len: usize,
-        ladder: *mut u16, ladder_len: usize, answer: *mut [usize; 4],
+        costs: *const u16,
+        costs_len: usize,
+        starts: *const u16,
+        starts_len: usize,
+        ends: *const u16,
+        ends_len: usize,
+        widths: *const u16,
+        widths_len: usize,
+        k: usize,
+        limit: u32,
+        table: *mut u16,
+        table_len: usize,
+        ladder: *mut u16,
+        ladder_len: usize,
+        answer: *mut [usize; 4],
     ) -> u32;
     fn hatch_inspect(
-        costs: *const u16, costs_len: usize, starts: *const u16, starts_len: usize,
-        ends: *const u16, ends_len: usize, widths: *const u16, widths_len: usize,
-        k: usize, limit: u32, table: *const u16, table_len: usize,
-        order: *mut u16, order_len: usize, answer: *mut [usize; 1],
+        costs: *const u16,
+        costs_len: usize,
+        starts: *const u16,
+        starts_len: usize,
+        ends: *const u16,
+        ends_len: usize,
+        widths: *const u16,
+        widths_len: usize,
+        k: usize,
+        limit: u32,
+        table: *const u16,
+        table_len: usize,
+        order: *mut u16,
+        order_len: usize,
+        answer: *mut [usize; 1],
     ) -> u32;
     fn hatch_read(
-        text: *const u8, text_len: usize, costs: *mut u16, costs_len: usize,
-        starts: *mut u16, starts_len: usize, ends: *mut u16, ends_len: usize,
-        widths: *mut u16, widths_len: usize, answer: *mut [usize; 4],
+        text: *const u8,
+        text_len: usize,
+        costs: *mut u16,
+        costs_len: usize,
+        starts: *mut u16,
+        starts_len: usize,
+        ends: *mut u16,
+        ends_len: usize,
+        widths: *mut u16,
+        widths_len: usize,
+        answer: *mut [usize; 4],
     ) -> u32;
 }
 
@@ -86,8 +116,21 @@ impl Lent {
         let ((table, table_len), (ladder, ladder_len)) = (t.lend(), l.lend());
         let (number, cells) = cells(|answer| unsafe {
             hatch_split(
-                self.costs.as_ptr(), self.costs.len(), a.as_ptr(), a.len(), b.as_ptr(), b.len(), w.as_ptr(), w.len(),
-                self.k as usize, self.limit, table, table_len, ladder, ladder_len, answer,
+                self.costs.as_ptr(),
+                self.costs.len(),
+                a.as_ptr(),
+                a.len(),
+                b.as_ptr(),
+                b.len(),
+                w.as_ptr(),
+                w.len(),
+                self.k as usize,
+                self.limit,
+                table,
+                table_len,
+                ladder,
+                ladder_len,
+                answer,
             )
         });
         Outcome { number, cells, tables: vec![t.back(), l.back()] }
@@ -107,8 +150,21 @@ impl Lent {
         let (order, order_len) = o.lend();
         let (number, cells) = cells(|answer| unsafe {
             hatch_inspect(
-                self.costs.as_ptr(), self.costs.len(), a.as_ptr(), a.len(), b.as_ptr(), b.len(), w.as_ptr(), w.len(),
-                self.k as usize, self.limit, table.as_ptr(), table.len(), order, order_len, answer,
+                self.costs.as_ptr(),
+                self.costs.len(),
+                a.as_ptr(),
+                a.len(),
+                b.as_ptr(),
+                b.len(),
+                w.as_ptr(),
+                w.len(),
+                self.k as usize,
+                self.limit,
+                table.as_ptr(),
+                table.len(),
+                order,
+                order_len,
+                answer,
             )
         });
         Outcome { number, cells, tables: vec![o.back()] }
@@ -139,6 +195,7 @@ pub fn read_by_reference(text: &[u8], lengths: Lengths) -> Outcome {
     let mut lists = lengths.map(|length| vec![GUARD; length]);
     let [c, s, e, w] = &mut lists;
     let answer = reference::read_kit(text, c, s, e, w);
-    let values = answer.map(|kit| vec![kit.blocks as u64, kit.wires as u64, kit.stages.into(), kit.limit.into()]);
+    let values =
+        answer.map(|kit| vec![kit.blocks as u64, kit.wires as u64, kit.stages.into(), kit.limit.into()]);
     outcome(4, values, lists.into())
 }

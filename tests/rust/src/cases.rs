@@ -7,7 +7,8 @@ const ONES: [u16; 1_025] = [1; 1_025];
 
 /// Wires of width 1.
 fn lent(costs: &[u16], wires: &[(u16, u16)], k: u32, limit: u32) -> Lent {
-    let lists = [wires.iter().map(|w| w.0).collect(), wires.iter().map(|w| w.1).collect(), vec![1; wires.len()]];
+    let lists =
+        [wires.iter().map(|w| w.0).collect(), wires.iter().map(|w| w.1).collect(), vec![1; wires.len()]];
     Lent { costs: costs.to_vec(), wires: lists, k, limit }
 }
 
@@ -27,7 +28,13 @@ struct Runs(usize);
 
 impl Runs {
     /// A table is inspected: the cut and the order are answered, or a number and a place.
-    fn inspect(&mut self, name: &str, kit: &Lent, table: &[u16], answer: Result<(usize, &[u16]), (u32, usize)>) {
+    fn inspect(
+        &mut self,
+        name: &str,
+        kit: &Lent,
+        table: &[u16],
+        answer: Result<(usize, &[u16]), (u32, usize)>,
+    ) {
         let k = kit.k as usize;
         let wanted = match answer {
             Ok((cut, order)) => Outcome { number: 0, cells: vec![cut], tables: vec![order.to_vec()] },

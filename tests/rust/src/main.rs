@@ -4,7 +4,7 @@
 mod calls;
 mod cases;
 
-use calls::{read, read_by_reference, Lent, Lengths, Outcome, GUARD};
+use calls::{read, read_by_reference, Lengths, Lent, Outcome, GUARD};
 use reference::digest;
 use reference::generate::{case, table, Rng};
 
@@ -94,7 +94,12 @@ fn compare(seed: u64, index: u64, tally: &mut Tally) {
     if split.number == 0 {
         let own = kit.inspect(&split.tables[0], k);
         let order: Vec<u16> = (0..k as u16).collect();
-        assert_eq!(own, Outcome { number: 0, cells: vec![split.cells[0]], tables: vec![order] }, "{}", what());
+        assert_eq!(
+            own,
+            Outcome { number: 0, cells: vec![split.cells[0]], tables: vec![order] },
+            "{}",
+            what()
+        );
     }
 }
 
