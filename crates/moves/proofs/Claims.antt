@@ -9,7 +9,7 @@ use Rattle.graph.specs.Graph.{Graph, cutOf, Proper}
 use Rattle.graph.specs.Rows.{clusters, Hierarchy}
 use Rattle.moves.specs.Entries.{State, stateOf, Entry, down, after, AllAllowed, cutAt, gain, gains, Good}
 use Rattle.moves.specs.Pass.{target, Tally, tallyOf, passOf, passes, refinedOn, refinedBelow, refined}
-use Rattle.moves.specs.Own.{Taken, Took}
+use Rattle.moves.specs.Own.{Taken, movesFrom, ownMoves, Took}
 use Rattle.moves.proofs.Entries.{nested, good-after, cut-after, cut-total}
 use Rattle.moves.proofs.Visits.{target-taken}
 use Rattle.moves.proofs.Own.{own-from, took-good, took-few, repeat-ends}
@@ -22,17 +22,17 @@ module _ (G : Graph) (P : Proper G) (k bound : ℕ) (rows : ℕ → List ℕ) (t
       × ((i : ℕ) → i < length es → pos (cutAt G (after rows (take i es) s)) ≡ pos (cutAt G (after rows (take (suc i) es) s)) +ℤ gain G rows (getD es i down) (after rows (take i es) s))
   moves-law s I es a = (good-after G P k bound rows top (nested H) es s I a, cut-after G P k bound rows top (nested H) es s I a)
 
-  -- the refinement's moves from a good start are such a list, each of gain above 0, with as many steps down as the rung, to rung 0 and the table
+  -- the refinement's own moves from a good start are such a list, each of gain above 0, with as many steps down as the rung, to rung 0 and the table
   -- answered; its moves of gain above 0 number the moves answered, and the first cut is the cut answered plus the gains
   pub own-moves : (rung : ℕ) (parts : List ℕ) → Good G k bound rows top (stateOf rung parts)
-      → (x : Took G bound rows (stateOf rung parts) (stateOf 0 (refined G k bound rows rung parts .parts)) (refined G k bound rows rung parts .moves) rung)
-      × (pos (cutOf G parts) ≡ pos (cutOf G (refined G k bound rows rung parts .parts)) +ℤ gains G rows (x .list) (stateOf rung parts))
-  unfolding refined
+      → Took G bound rows (ownMoves G k bound rows rung parts) (stateOf rung parts) (stateOf 0 (refined G k bound rows rung parts .parts)) (refined G k bound rows rung parts .moves) rung
+      × (pos (cutOf G parts) ≡ pos (cutOf G (refined G k bound rows rung parts .parts)) +ℤ gains G rows (ownMoves G k bound rows rung parts) (stateOf rung parts))
+  unfolding refined ownMoves
   own-moves rung parts I =
       let (m, x, c) = own-from G P k bound rows top (nested H) rung (tallyOf parts 0) in
       let q : m ≡ refinedBelow G k bound rows (suc rung) (tallyOf parts 0) .moves = omega arith in
       let y = rw q at x in
-      (y, rw (y .ends) at (cut-total G P k bound rows top (nested H) (y .list) (stateOf rung parts) I (y .allowed) .1))
+      (y, rw (y .ends) at (cut-total G P k bound rows top (nested H) (movesFrom G k bound rows rung (tallyOf parts 0)) (stateOf rung parts) I (y .allowed) .1))
 
   -- the moves answered are never more than the first cut less the cut answered
   pub few-moves : (rung : ℕ) (parts : List ℕ) → Good G k bound rows top (stateOf rung parts)

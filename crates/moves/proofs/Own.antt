@@ -16,7 +16,7 @@ use Rattle.graph.specs.Rows.{clusters}
 use Rattle.moves.specs.Move.{partOf, pull, gainTo, Allowed}
 use Rattle.moves.specs.Entries.{State, stateOf, Entry, move, down, step, after, AllAllowed, AllGain, cutAt, gain, gaining, downs, Good}
 use Rattle.moves.specs.Pass.{target, Tally, settledAt, visited, passOf, measure, passes, repeated, refinedOn, refinedBelow}
-use Rattle.moves.specs.Own.{Took}
+use Rattle.moves.specs.Own.{visitMoves, turnMoves, passMoves, repeatedMoves, movesOn, movesFrom, Took}
 use Rattle.moves.proofs.Signed.{above-zero}
 use Rattle.moves.proofs.Entries.{Nested, good-step, cut-allowed, cut-total}
 use Rattle.moves.proofs.Visits.{target-chosen}
@@ -44,33 +44,31 @@ module _ (G : Graph) (bound : ℕ) (rows : ℕ → List ℕ) where
   downs-append (move h t ∷ a) b = downs-append a b
   downs-append (down ∷ a) b = omega (arith, downs-append a b)
 
-  took-none : (a : State) → Took G bound rows a a 0 0
-  took-none a = record { list = []; allowed = tt; gain = tt; ends = refl; counted = refl; stepped = refl }
+  took-none : (a : State) → Took G bound rows [] a a 0 0
+  took-none a = record { allowed = tt; gain = tt; ends = refl; counted = refl; stepped = refl }
 
-  took-join : {a b c : State} {m n d e : ℕ} → Took G bound rows a b m d → Took G bound rows b c n e → Took G bound rows a c (m + n) (d + e)
-  took-join {a} {b} x y =
+  took-join : {es fs : List Entry} {a b c : State} {m n d e : ℕ} → Took G bound rows es a b m d → Took G bound rows fs b c n e → Took G bound rows (es ++ fs) a c (m + n) (d + e)
+  took-join {es} {fs} {a} x y =
       record {
-        list = x .list ++ y .list;
-        allowed = allowed-append (x .list) (y .list) a (x .allowed) (rw (x .ends) (y .allowed));
-        gain = gain-append (x .list) (y .list) a (x .gain) (rw (x .ends) (y .gain));
-        ends = after-append (x .list) (y .list) a ∙ rw (x .ends) (y .ends);
-        counted = gaining-append (x .list) (y .list) a ∙ rw (x .ends) (omega (arith, x .counted, y .counted));
-        stepped = downs-append (x .list) (y .list) ∙ omega (arith, x .stepped, y .stepped);
+        allowed = allowed-append es fs a (x .allowed) (rw (x .ends) (y .allowed));
+        gain = gain-append es fs a (x .gain) (rw (x .ends) (y .gain));
+        ends = after-append es fs a ∙ rw (x .ends) (y .ends);
+        counted = gaining-append es fs a ∙ rw (x .ends) (omega (arith, x .counted, y .counted));
+        stepped = downs-append es fs ∙ omega (arith, x .stepped, y .stepped);
       }
 
   took-move : (s : State) (h t : ℕ) → Allowed G bound (rows (s .rung)) (s .parts) h t → ltZ (pos 0) (gainTo G (rows (s .rung)) (s .parts) h t) ≡ true
-      → Took G bound rows s (step rows (move h t) s) 1 0
-  took-move s h t a g =
-      record { list = move h t ∷ []; allowed = (a, tt); gain = (g, tt); ends = refl; counted = rw g; stepped = refl }
+      → Took G bound rows (move h t ∷ []) s (step rows (move h t) s) 1 0
+  took-move s h t a g = record { allowed = (a, tt); gain = (g, tt); ends = refl; counted = rw g; stepped = refl }
 
-  took-down : (r : ℕ) (parts : List ℕ) → Took G bound rows (stateOf (suc r) parts) (stateOf r parts) 0 1
+  took-down : (r : ℕ) (parts : List ℕ) → Took G bound rows (down ∷ []) (stateOf (suc r) parts) (stateOf r parts) 0 1
   took-down r parts =
       let q : suc r - 1 ≡ r = omega arith in
-      record { list = down ∷ []; allowed = (omega arith, tt); gain = (tt, tt); ends = ap (λ (x : ℕ). stateOf x parts) q; counted = refl; stepped = refl }
+      record { allowed = (omega arith, tt); gain = (tt, tt); ends = ap (λ (x : ℕ). stateOf x parts) q; counted = refl; stepped = refl }
 
   -- without moves and without steps down, nothing changed
-  took-still : {a b : State} → Took G bound rows a b 0 0 → a ≡ b
-  took-still {a} {b} x = go (x .list) (x .gain) (x .ends) (x .counted) (x .stepped)
+  took-still : {es : List Entry} {a b : State} → Took G bound rows es a b 0 0 → a ≡ b
+  took-still {es} {a} {b} x = go es (x .gain) (x .ends) (x .counted) (x .stepped)
     where
       go : (es : List Entry) → AllGain G rows es a → after rows es a ≡ b → gaining G rows es a ≡ 0 → downs es ≡ 0 → a ≡ b
       go [] g e c d = e
@@ -78,8 +76,8 @@ module _ (G : Graph) (bound : ℕ) (rows : ℕ → List ℕ) where
       go (down ∷ es) g e c d = absurd (omega arith)
 
 module _ (G : Graph) (P : Proper G) (k bound : ℕ) (rows : ℕ → List ℕ) (top : ℕ) (H : Nested G rows top) where
-  pub took-good : {a b : State} {m d : ℕ} → Good G k bound rows top a → Took G bound rows a b m d → Good G k bound rows top b
-  took-good {a} I x = rw (x .ends) at (cut-total G P k bound rows top H (x .list) a I (x .allowed) .0)
+  pub took-good : {es : List Entry} {a b : State} {m d : ℕ} → Good G k bound rows top a → Took G bound rows es a b m d → Good G k bound rows top b
+  took-good {es} {a} I x = rw (x .ends) at (cut-total G P k bound rows top H es a I (x .allowed) .0)
 
   -- with each move of gain above 0 the cut falls
   few-gains : (es : List Entry) (s : State) → Good G k bound rows top s → AllAllowed G bound rows es s → AllGain G rows es s → gaining G rows es s + cutAt G (after rows es s) ≤ cutAt G s
@@ -98,40 +96,40 @@ module _ (G : Graph) (P : Proper G) (k bound : ℕ) (rows : ℕ → List ℕ) (t
       )
   few-gains (down ∷ es) s I a g = omega (arith, few-gains es (step rows down s) (good-step G P k bound rows top H down s I (a .0)) (a .1) (g .1))
 
-  pub took-few : {a b : State} {m d : ℕ} → Good G k bound rows top a → Took G bound rows a b m d → m + cutAt G b ≤ cutAt G a
-  took-few {a} I x = rw (← x .counted, ← x .ends) (few-gains (x .list) a I (x .allowed) (x .gain))
+  pub took-few : {es : List Entry} {a b : State} {m d : ℕ} → Good G k bound rows top a → Took G bound rows es a b m d → m + cutAt G b ≤ cutAt G a
+  took-few {es} {a} I x = rw (← x .counted, ← x .ends) (few-gains es a I (x .allowed) (x .gain))
 
-  -- what the work on rung r makes of s
-  pub record Steps (r : ℕ) (s s′ : Tally) : Type 0 where
+  -- the work on rung r makes s′ of s by the entries es
+  pub record Steps (r : ℕ) (es : List Entry) (s s′ : Tally) : Type 0 where
     pub made : ℕ
-    pub took : Took G bound rows (stateOf r (s .parts)) (stateOf r (s′ .parts)) made 0
+    pub took : Took G bound rows es (stateOf r (s .parts)) (stateOf r (s′ .parts)) made 0
     pub count : s′ .moves ≡ s .moves + made
 
-  steps-none : (r : ℕ) (s : Tally) → Steps r s s
+  steps-none : (r : ℕ) (s : Tally) → Steps r [] s s
   steps-none r s = record { made = 0; took = took-none G bound rows (stateOf r (s .parts)); count = omega arith }
 
-  steps-join : (r : ℕ) (s t u : Tally) → Steps r s t → Steps r t u → Steps r s u
-  steps-join r s t u x y =
+  steps-join : {r : ℕ} {es fs : List Entry} {s t u : Tally} → Steps r es s t → Steps r fs t u → Steps r (es ++ fs) s u
+  steps-join x y =
       record { made = x .made + y .made; took = took-join G bound rows (x .took) (y .took); count = omega (arith, x .count, y .count) }
 
-  pub steps-good : {r : ℕ} {s t : Tally} → Good G k bound rows top (stateOf r (s .parts)) → Steps r s t → Good G k bound rows top (stateOf r (t .parts))
+  pub steps-good : {r : ℕ} {es : List Entry} {s t : Tally} → Good G k bound rows top (stateOf r (s .parts)) → Steps r es s t → Good G k bound rows top (stateOf r (t .parts))
   steps-good I x = took-good I (x .took)
 
   -- each move lowers the measure
-  pub steps-fall : {r : ℕ} {s t : Tally} → Good G k bound rows top (stateOf r (s .parts)) → Steps r s t → t .moves + measure G (t .parts) ≤ s .moves + measure G (s .parts)
+  pub steps-fall : {r : ℕ} {es : List Entry} {s t : Tally} → Good G k bound rows top (stateOf r (s .parts)) → Steps r es s t → t .moves + measure G (t .parts) ≤ s .moves + measure G (s .parts)
   unfolding measure
   steps-fall I x = omega (arith, took-few I (x .took), x .count)
 
-  steps-still : (r : ℕ) (s t : Tally) → Steps r s t → t .moves ≡ s .moves → t ≡ s
-  steps-still r s t x e =
+  steps-still : {r : ℕ} {es : List Entry} {s t : Tally} → Steps r es s t → t .moves ≡ s .moves → t ≡ s
+  steps-still {s = s} {t = t} x e =
       let z : x .made ≡ 0 = omega (arith, x .count) in
       let q = took-still G bound rows (rw z at (x .took)) in
       let p : s .parts ≡ t .parts = ap (λ (y : State). y .parts) q in
       sym (rw (p, ← e))
 
-  -- a visit, a pass, and the passes on rung r
-  pub visit-steps : (r h : ℕ) (s : Tally) → h < clusters (rows r) → Steps r s (visited G k bound (rows r) h s)
-  unfolding visited settledAt
+  -- a visit, a pass, and the passes on rung r, each by its own moves
+  pub visit-steps : (r h : ℕ) (s : Tally) → h < clusters (rows r) → Steps r (visitMoves G k bound (rows r) h s) s (visited G k bound (rows r) h s)
+  unfolding visited settledAt visitMoves
   visit-steps r h s l =
       either (eq-or-ne (target G k bound (rows r) (s .parts) h) (partOf (rows r) (s .parts) h))
       (λ e. rw (eq-eqb _ _ e) (steps-none r s))
@@ -139,29 +137,27 @@ module _ (G : Graph) (P : Proper G) (k bound : ℕ) (rows : ℕ → List ℕ) (t
       (either (target-chosen G (rows r) (s .parts) h bound k l) (λ e. absurd (n e))
       (λ w. record { made = 1; took = took-move G bound rows (stateOf r (s .parts)) h (target G k bound (rows r) (s .parts) h) (w .0) (w .1); count = refl })))
 
-  pub turn-steps : (r i : ℕ) (s : Tally) → i ≤ clusters (rows r) → Steps r s (turns i (visited G k bound (rows r)) s)
-  unfolding turns
+  pub turn-steps : (r i : ℕ) (s : Tally) → i ≤ clusters (rows r) → Steps r (turnMoves G k bound (rows r) i s) s (turns i (visited G k bound (rows r)) s)
+  unfolding turns turnMoves
   turn-steps r zero s l = steps-none r s
-  turn-steps r (suc i) s l =
-      let t = turns i (visited G k bound (rows r)) s in
-      steps-join r s t (visited G k bound (rows r) i t) (turn-steps r i s (omega arith)) (visit-steps r i t l)
+  turn-steps r (suc i) s l = steps-join (turn-steps r i s (omega arith)) (visit-steps r i (turns i (visited G k bound (rows r)) s) l)
 
-  pub pass-steps : (r : ℕ) (s : Tally) → Steps r s (passOf G k bound (rows r) s)
-  unfolding passOf
+  pub pass-steps : (r : ℕ) (s : Tally) → Steps r (passMoves G k bound (rows r) s) s (passOf G k bound (rows r) s)
+  unfolding passOf passMoves
   pass-steps r s = turn-steps r (clusters (rows r)) s (omega arith)
 
   pub pass-still : (r : ℕ) (s : Tally) → passOf G k bound (rows r) s .moves ≡ s .moves → passOf G k bound (rows r) s ≡ s
-  pass-still r s e = steps-still r s (passOf G k bound (rows r) s) (pass-steps r s) e
+  pass-still r s e = steps-still (pass-steps r s) e
 
-  repeat-steps : (r fuel : ℕ) (s : Tally) → Steps r s (repeated G k bound (rows r) fuel s)
-  unfolding repeated
+  repeat-steps : (r fuel : ℕ) (s : Tally) → Steps r (repeatedMoves G k bound (rows r) fuel s) s (repeated G k bound (rows r) fuel s)
+  unfolding repeated repeatedMoves
   repeat-steps r zero s = steps-none r s
   repeat-steps r (suc fuel) s =
       by (eqb (passOf G k bound (rows r) s .moves) (s .moves)) (λ e. rw e (steps-none r s))
-      (λ e. rw e (steps-join r s (passOf G k bound (rows r) s) _ (pass-steps r s) (repeat-steps r fuel (passOf G k bound (rows r) s))))
+      (λ e. rw e (steps-join (pass-steps r s) (repeat-steps r fuel (passOf G k bound (rows r) s))))
 
-  pub refined-steps : (r : ℕ) (s : Tally) → Steps r s (refinedOn G k bound (rows r) s)
-  unfolding refinedOn
+  pub refined-steps : (r : ℕ) (s : Tally) → Steps r (movesOn G k bound (rows r) s) s (refinedOn G k bound (rows r) s)
+  unfolding refinedOn movesOn
   refined-steps r s = repeat-steps r (passes G (s .parts)) s
 
   -- a pass that moves something lowers the measure
@@ -178,8 +174,10 @@ module _ (G : Graph) (P : Proper G) (k bound : ℕ) (rows : ℕ → List ℕ) (t
       (λ e. rw e (repeat-ends r fuel (passOf G k bound (rows r) s) (steps-good I (pass-steps r s)) (omega (arith, pass-falls r s I (eqb-false _ _ e)))))
 
   -- down the rungs
-  pub own-from : (r : ℕ) (s : Tally) → (made : ℕ) × Took G bound rows (stateOf r (s .parts)) (stateOf 0 (refinedBelow G k bound rows (suc r) s .parts)) made r × (refinedBelow G k bound rows (suc r) s .moves ≡ s .moves + made)
-  unfolding refinedBelow
+  pub own-from : (r : ℕ) (s : Tally) → (made : ℕ)
+      × Took G bound rows (movesFrom G k bound rows r s) (stateOf r (s .parts)) (stateOf 0 (refinedBelow G k bound rows (suc r) s .parts)) made r
+      × (refinedBelow G k bound rows (suc r) s .moves ≡ s .moves + made)
+  unfolding refinedBelow movesFrom
   own-from zero s = let x = refined-steps 0 s in (x .made, x .took, x .count)
   own-from (suc r) s =
       let x = refined-steps (suc r) s in

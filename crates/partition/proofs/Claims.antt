@@ -40,7 +40,7 @@ use Rattle.initial.specs.Initial.{Chosen, found, uncut, chosenOf, LeastCut, Div
 use Rattle.initial.proofs.Claims.{initial-least, none-exactly, initial-good}
 use Rattle.moves.specs.Entries.{State, stateOf, Entry, down, after, AllAllowed, cutAt, gain, gains, Good}
 use Rattle.moves.specs.Pass.{Tally, refined}
-use Rattle.moves.specs.Own.{Took}
+use Rattle.moves.specs.Own.{ownMoves, Took}
 use Rattle.moves.specs.Move.{place, partSize}
 use Rattle.moves.proofs.Claims.{moves-law, own-moves, few-moves, refined-good}
 use Rattle.partition.specs.Phases.{Result, nothing, parted, firstOf, refinedFrom, resultOf}
@@ -97,14 +97,14 @@ module _ (G : Graph) (k bound : ℕ) (valid : Valid G k bound) where
       → (es : List Entry) → AllAllowed G bound (rowOf G k bound) es (stateOf rung first)
       → ((i : ℕ) → Good G k bound (rowOf G k bound) (keptOf G k bound) (after (rowOf G k bound) (take i es) (stateOf rung first)))
       × ((i : ℕ) → i < length es → pos (cutAt G (after (rowOf G k bound) (take i es) (stateOf rung first)))
-        ≡ pos (cutAt G (after (rowOf G k bound) (take (suc i) es) (stateOf rung first))) +ℤ gain G (rowOf G k bound) (getD es i down) (after (rowOf G k bound) (take i es) (stateOf rung first)))
+      ≡ pos (cutAt G (after (rowOf G k bound) (take (suc i) es) (stateOf rung first))) +ℤ gain G (rowOf G k bound) (getD es i down) (after (rowOf G k bound) (take i es) (stateOf rung first)))
   split-moves e = moves-law G (sound .proper) k bound (rowOf G k bound) (keptOf G k bound) kept (stateOf _ _) (first-good e)
 
   -- the split's own moves are such a list, each of gain above 0, with as many steps down as the rung that was cut; they lead to the table answered
   -- on rung 0, number the moves answered, and the first cut is the cut answered plus their gains
   pub split-own-moves : {rung : ℕ} {first : List ℕ} {tally : Tally} → resultOf G k bound ≡ parted rung first tally
-      → (x : Took G bound (rowOf G k bound) (stateOf rung first) (stateOf 0 (tally .parts)) (tally .moves) rung)
-      × (pos (cutOf G first) ≡ pos (cutOf G (tally .parts)) +ℤ gains G (rowOf G k bound) (x .list) (stateOf rung first))
+      → Took G bound (rowOf G k bound) (ownMoves G k bound (rowOf G k bound) rung first) (stateOf rung first) (stateOf 0 (tally .parts)) (tally .moves) rung
+      × (pos (cutOf G first) ≡ pos (cutOf G (tally .parts)) +ℤ gains G (rowOf G k bound) (ownMoves G k bound (rowOf G k bound) rung first) (stateOf rung first))
   split-own-moves {rung} {first} e =
       let (c, _, t) = first-found e in
       rw t (own-moves G (sound .proper) k bound (rowOf G k bound) (keptOf G k bound) kept rung first (first-good e))
@@ -155,9 +155,9 @@ module _ (G : Graph) (k bound : ℕ) (valid : Valid G k bound) where
         filled = I .filled;
         within = I .within;
         acyclic = rank-law (Edge (seen G (tally .parts))) (λ u. u) (λ a b t.
-          let (j, l, ea, eb) = edge-arc (seen G (tally .parts)) a b t in
-          let n = edge-other (seen G (tally .parts)) a b t in
-          rises a b n (I .forward j l) ea eb);
+            let (j, l, ea, eb) = edge-arc (seen G (tally .parts)) a b t in
+            let n = edge-other (seen G (tally .parts)) a b t in
+            rises a b n (I .forward j l) ea eb);
       }
     where
       rises : (a b : ℕ) {x y : ℕ} → (a ≡ b → ⊥) → x ≤ y → x ≡ a → y ≡ b → a < b
