@@ -14,8 +14,8 @@ use Rattle.folds.proofs.Cases.{both}
 use Rattle.graph.specs.Graph.{Graph, vertices, edges, seen, cutOf, Proper}
 use Rattle.graph.specs.Links.{Joins}
 use Rattle.topology.specs.Order.{orderOf}
-use Rattle.validity.specs.Cause.{Answer, numberOf, refusal, told}
-use Rattle.validity.specs.Check.{andThen, checked, Valid}
+use Rattle.validity.specs.Cause.{Answer, numberOf, refusal, answered, ifPassed}
+use Rattle.validity.specs.Check.{checked, Valid}
 use Rattle.validity.specs.Sound.{Sound}
 use Rattle.validity.specs.declared.Cause.{Cause}
 use Rattle.validity.specs.declared.Cause.the-variants.{Vertices, Parts, Edges, Room, Cost, Ends, Repeat, Cycle, Uncut, Entry, Empty, Over, PartCycle, Length, Line, Lines}
@@ -23,7 +23,7 @@ use Rattle.validity.specs.declared.Verdict.{Verdict}
 use Rattle.validity.specs.declared.Verdict.the-variants.{Passed, Refused}
 use Rattle.validity.proofs.Passed.{passed-valid, valid-sound}
 use Rattle.inspection.specs.Table.{tableOf, Fine, Tabled}
-use Rattle.inspection.specs.Inspect.{partsOf, verdictOf, inspectOf, startOrder, orderAfter}
+use Rattle.inspection.specs.Inspect.{partsOf, verdictOf, inspectOf, orderAfter}
 use Rattle.inspection.proofs.Tables.{passed-fine, fine-passed, table-joins}
 
 -- what the calls below answered: v of checks 1 to 8
@@ -40,7 +40,7 @@ module _ (G : Graph) (k bound : ℕ) (table order : List ℕ) (room : Bool) (v :
   refused-table e ew h = rw (← er, ← ev, e, ← ew, h) (refl, refl)
 
   pub passed-both : {w : Verdict} → v ≡ Passed → w ≡ tableOf (G .costs) (G .starts) (G .ends) k bound (partsOf G table) → w ≡ Passed
-      → (record { number = 0; values = cutOf G (partsOf G table) ∷ [] } ≡ inspectOf G k bound table order) × (over (orderOf (seen G (partsOf G table)) k) order ≡ orderAfter G k bound table order)
+      → (answered (cutOf G (partsOf G table) ∷ []) ≡ inspectOf G k bound table order) × (over (orderOf (seen G (partsOf G table)) k) order ≡ orderAfter G k bound table order)
   unfolding inspectOf orderAfter verdictOf
   passed-both e ew h = rw (← er, ← ev, e, ← ew, h) (refl, refl)
 
@@ -93,9 +93,9 @@ numbered Length e = omega arith
 numbered Line e = omega arith
 numbered Lines e = omega arith
 
-told-passed : (v : Verdict) (values : List ℕ) → told v values .number ≡ 0 → v ≡ Passed
-told-passed Passed values e = refl
-told-passed (Refused cause place) values e = absurd (numbered cause e)
+number-passed : (v : Verdict) (values : List ℕ) → ifPassed v (answered values) refusal .number ≡ 0 → v ≡ Passed
+number-passed Passed values e = refl
+number-passed (Refused cause place) values e = absurd (numbered cause e)
 
 -- DEMAND 2: for a valid graph, inspection passes a table (with an entry for each vertex, and room for the start order) exactly if it is fine
 pub inspection-exactly : (G : Graph) (k bound : ℕ) (table order : List ℕ) → Valid G k bound → vertices G ≤ length table → k ≤ length order
@@ -109,8 +109,8 @@ inspection-exactly G k bound table order valid lt lo = (there, back)
     proper : Proper G
     proper = valid-sound G k bound valid .proper
 
-    there : told (verdictOf G k bound table order) (cutOf G (partsOf G table) ∷ []) .number ≡ 0 → Fine G k bound (partsOf G table)
-    there e = passed-fine G k bound (partsOf G table) proper (rw checks at (told-passed (verdictOf G k bound table order) _ e))
+    there : ifPassed (verdictOf G k bound table order) (answered (cutOf G (partsOf G table) ∷ [])) refusal .number ≡ 0 → Fine G k bound (partsOf G table)
+    there e = passed-fine G k bound (partsOf G table) proper (rw checks at (number-passed (verdictOf G k bound table order) _ e))
 
-    back : Fine G k bound (partsOf G table) → told (verdictOf G k bound table order) (cutOf G (partsOf G table) ∷ []) .number ≡ 0
+    back : Fine G k bound (partsOf G table) → ifPassed (verdictOf G k bound table order) (answered (cutOf G (partsOf G table) ∷ [])) refusal .number ≡ 0
     back F = rw (checks, fine-passed G k bound (partsOf G table) proper F)

@@ -1,8 +1,8 @@
 -- DEMAND 3, whole: each part one claim about the split of a valid graph.
 use Prim.Native.Nat.{ℕ, suc, _+_, _*_, _≤_, _<_}
 use mathlib.Core.Path.{_≡_, refl, sym, ap, _∙_}
-use mathlib.Core.Bool.{Bool, true, _&&_}
-use mathlib.Core.Logic.{_↔_}
+use mathlib.Core.Bool.{true, _&&_}
+use mathlib.Core.Logic.{_⊎_, inl, inr, _↔_}
 use mathlib.Core.List.{List, [], _∷_}
 use native.Mathlib.Omega.{arith}
 use lib.Dec.{leb}
@@ -14,19 +14,20 @@ use Rattle.folds.proofs.Cases.{either, eq-or-ne}
 use Rattle.folds.proofs.Slices.{take-over, length-over}
 use Rattle.graph.specs.Walk.{Acyclic}
 use Rattle.graph.specs.Graph.{Graph, vertices, edges, identity, seen, Edge, cutOf, partCost}
-use Rattle.graph.specs.Rows.{Hierarchy}
+use Rattle.graph.specs.Rows.{clusters, Hierarchy}
 use Rattle.graph.proofs.Walks.{rank-law}
-use Rattle.graph.proofs.Edges.{edge-arc, edge-other}
-use Rattle.topology.specs.Order.{orderOf}
+use Rattle.graph.proofs.Edges.{edge-arc, edge-other, row-inside}
+use Rattle.graph.proofs.Rows.{few-clusters}
+use Rattle.topology.specs.Order.{orderOf, placeIn}
+use Rattle.topology.proofs.Orders.{order-all, order-rises}
 use Rattle.topology.proofs.Sorted.{order-sorted}
-use Rattle.validity.specs.Cause.{Answer, refusal, told}
-use Rattle.validity.specs.Check.{checked, Valid}
+use Rattle.validity.specs.Cause.{Answer, refusal, answered}
+use Rattle.validity.specs.Check.{Valid}
 use Rattle.validity.specs.Sound.{Sound}
 use Rattle.validity.specs.declared.Cause.the-variants.{Uncut}
-use Rattle.validity.specs.declared.Verdict.{Verdict}
-use Rattle.validity.specs.declared.Verdict.the-variants.{Passed, Refused}
+use Rattle.validity.specs.declared.Verdict.the-variants.{Passed}
 use Rattle.validity.proofs.Passed.{valid-sound}
-use Rattle.inspection.specs.Table.{tableOf, Fine}
+use Rattle.inspection.specs.Table.{Fine}
 use Rattle.inspection.specs.Inspect.{inspectOf, orderAfter}
 use Rattle.inspection.specs.Inspect as inspect
 use Rattle.inspection.proofs.Tables.{fine-passed}
@@ -44,7 +45,7 @@ use Rattle.moves.specs.Own.{ownMoves, Took}
 use Rattle.moves.specs.Move.{place, partSize}
 use Rattle.moves.proofs.Claims.{moves-law, own-moves, few-moves, refined-good}
 use Rattle.partition.specs.Phases.{Result, nothing, parted, firstOf, refinedFrom, resultOf}
-use Rattle.partition.specs.Split.{roomFor, verdictOf, valuesOf, answerAfter, splitOf, partsInto, ifPassed, tableAfter, ladderLeft}
+use Rattle.partition.specs.Split.{roomFor, verdictOf, splitOf, tableAfter, ladderLeft, Answers, Uncuttable}
 use Rattle.partition.proofs.Rows.{good-start}
 
 module _ (G : Graph) (k bound : ℕ) (valid : Valid G k bound) where
@@ -122,29 +123,6 @@ module _ (G : Graph) (k bound : ℕ) (valid : Valid G k bound) where
       let (c, _, t) = first-found e in
       rw t (refined-good G (sound .proper) k bound (rowOf G k bound) (keptOf G k bound) kept rung first (first-good e))
 
-  -- 9 comes exactly when no kept rung has such a division
-  pub split-nine : (table ladder : List ℕ) → vertices G ≤ length table → 9 * vertices G ≤ length ladder
-      → (splitOf G k bound table ladder ≡ refusal Uncut 0) ↔ ((q : ℕ) → q ≤ keptOf G k bound → (d : List ℕ) → Divides G k bound (rowOf G k bound q) d → ⊥)
-  unfolding splitOf verdictOf roomFor resultOf firstOf
-  split-nine table ladder lt ll = (there, back)
-    where
-      passes : checked 512 G k bound (leb (vertices G) (length table) && leb (9 * vertices G) (length ladder)) ≡ Passed
-      passes = rw (le-leb _ _ lt, le-leb _ _ ll) valid
-
-      there : answerAfter (checked 512 G k bound (leb (vertices G) (length table) && leb (9 * vertices G) (length ladder))) (valuesOf G (keptOf G k bound) (refinedFrom G k bound (firstOf G k bound))) ≡ refusal Uncut 0
-          → (q : ℕ) → q ≤ keptOf G k bound → (d : List ℕ) → Divides G k bound (rowOf G k bound q) d → ⊥
-      there e = none-exactly (sound .proper) kept k bound .0 (go (firstOf G k bound) refl)
-        where
-          go : (x : Chosen) → firstOf G k bound ≡ x → firstOf G k bound ≡ uncut
-          go uncut q = q
-          go (found r t c) q =
-              let p = rw (passes, q) at e in
-              let z : _≡_ {A = ℕ} 0 9 = ap (λ (a : Answer). a .number) p in absurd (omega arith)
-
-      back : ((q : ℕ) → q ≤ keptOf G k bound → (d : List ℕ) → Divides G k bound (rowOf G k bound q) d → ⊥)
-          → answerAfter (checked 512 G k bound (leb (vertices G) (length table) && leb (9 * vertices G) (length ladder))) (valuesOf G (keptOf G k bound) (refinedFrom G k bound (firstOf G k bound))) ≡ refusal Uncut 0
-      back h = rw (passes, none-exactly (sound .proper) kept k bound .1 h)
-
   -- the table answered is fine for inspection
   split-fine : {rung : ℕ} {first : List ℕ} {tally : Tally} → resultOf G k bound ≡ parted rung first tally → Fine G k bound (tally .parts)
   unfolding place partSize
@@ -163,20 +141,63 @@ module _ (G : Graph) (k bound : ℕ) (valid : Valid G k bound) where
       rises : (a b : ℕ) {x y : ℕ} → (a ≡ b → ⊥) → x ≤ y → x ≡ a → y ≡ b → a < b
       rises a b n l ex ey = either (eq-or-ne a b) (λ q. absurd (n q)) (λ q. omega arith)
 
-  -- inspection passes every table that the split writes, with the same cut and the start order 0, 1, .., k - 1
-  pub split-inspects : {rung : ℕ} {first : List ℕ} {tally : Tally} → resultOf G k bound ≡ parted rung first tally
-      → (table ladder order : List ℕ) → vertices G ≤ length table → 9 * vertices G ≤ length ladder → k ≤ length order
-      → (inspectOf G k bound (tableAfter G k bound table ladder) order ≡ record { number = 0; values = cutOf G (tally .parts) ∷ [] })
-      × (orderAfter G k bound (tableAfter G k bound table ladder) order ≡ over (identity k) order)
-  unfolding tableAfter verdictOf roomFor inspectOf orderAfter inspect.verdictOf inspect.partsOf place
-  split-inspects {tally = tally} e table ladder order lt ll lo =
-      rw (le-leb _ _ lt, le-leb _ _ ll, valid, e, take-over (tally .parts) table (vertices G) (I .whole), room, valid, fine-passed G k bound (tally .parts) (sound .proper) (split-fine e)) (refl, ap (λ (l : List ℕ). over l order) sorted)
-    where
-      I : Good G k bound (rowOf G k bound) (keptOf G k bound) (stateOf 0 (tally .parts))
-      I = split-good e
+  -- RUNNING ORDER: on every kept rung the play order takes all groups, and every wire between two groups goes from an earlier place to a later one
+  pub split-order : (r : ℕ) → r ≤ keptOf G k bound
+      → (length (orderOf (seen G (rowOf G k bound r)) (clusters (rowOf G k bound r))) ≡ clusters (rowOf G k bound r))
+      × ((a b : ℕ) → Edge (seen G (rowOf G k bound r)) a b
+      → placeIn (orderOf (seen G (rowOf G k bound r)) (clusters (rowOf G k bound r))) a < placeIn (orderOf (seen G (rowOf G k bound r)) (clusters (rowOf G k bound r))) b)
+  split-order r l =
+      let A = seen G (rowOf G k bound r) in
+      let g = clusters (rowOf G k bound r) in
+      let inside = row-inside (sound .proper .formed) (kept .row r l) in
+      let small : g ≤ 512 = omega (arith, few-clusters kept r l, sound .proper .few) in
+      let all = order-all A g inside small (kept .acyclic r l) in (all, order-rises A g inside small all)
 
-      room : (leb (vertices G) (length (over (tally .parts) table)) && leb k (length order)) ≡ true
-      room = rw (length-over (tally .parts) table (omega (arith, I .whole)), le-leb _ _ lt) (le-leb _ _ lo)
+  -- FROM THE ANSWER TO THE CLAIMS: with room for its tables, the split answers what the phases gave, or 9
+  module _ (table ladder : List ℕ) (lt : vertices G ≤ length table) (ll : 9 * vertices G ≤ length ladder) where
+    passes : verdictOf G k bound table ladder ≡ Passed
+    unfolding verdictOf roomFor
+    passes = rw (le-leb _ _ lt, le-leb _ _ ll) valid
 
-      sorted : orderOf (seen G (tally .parts)) k ≡ identity k
-      sorted = order-sorted (seen G (tally .parts)) k (omega (arith, sound .few)) (λ j l. I .forward j l)
+    answers-parted : {rung : ℕ} {first : List ℕ} {tally : Tally} → resultOf G k bound ≡ parted rung first tally → Answers G k bound table ladder rung first tally
+    unfolding splitOf tableAfter ladderLeft
+    answers-parted e = record { result = e; answer = rw (passes, e); table-is = rw (passes, e); ladder-is = rw passes }
+
+    answers-nothing : resultOf G k bound ≡ nothing → Uncuttable G k bound table ladder
+    unfolding splitOf tableAfter ladderLeft
+    answers-nothing e = record { result = e; answer = rw (passes, e); table-is = rw (passes, e); ladder-is = rw passes }
+
+    pub split-answers : Uncuttable G k bound table ladder ⊎ ((rung : ℕ) × (first : List ℕ) × (tally : Tally) × Answers G k bound table ladder rung first tally)
+    split-answers = go (resultOf G k bound) refl
+      where
+        go : (x : Result) → resultOf G k bound ≡ x → Uncuttable G k bound table ladder ⊎ ((rung : ℕ) × (first : List ℕ) × (tally : Tally) × Answers G k bound table ladder rung first tally)
+        go nothing e = inl (answers-nothing e)
+        go (parted rung first tally) e = inr (rung, first, tally, answers-parted e)
+
+    -- 9 comes exactly when no kept rung has such a division
+    pub split-nine : (splitOf G k bound table ladder ≡ refusal Uncut 0) ↔ ((q : ℕ) → q ≤ keptOf G k bound → (d : List ℕ) → Divides G k bound (rowOf G k bound q) d → ⊥)
+    unfolding resultOf firstOf
+    split-nine = (λ e. none-exactly (sound .proper) kept k bound .0 (there e (firstOf G k bound) refl), λ h. answers-nothing (rw (none-exactly (sound .proper) kept k bound .1 h)) .answer)
+      where
+        there : splitOf G k bound table ladder ≡ refusal Uncut 0 → (x : Chosen) → firstOf G k bound ≡ x → firstOf G k bound ≡ uncut
+        there e uncut q = q
+        there e (found r t c) q =
+            let p : refinedFrom G k bound (firstOf G k bound) ≡ parted r t (refined G k bound (rowOf G k bound) r t) = rw q in
+            let z : _≡_ {A = ℕ} 0 9 = ap (λ (a : Answer). a .number) (sym (answers-parted p .answer) ∙ e) in absurd (omega arith)
+
+    -- inspection passes every table that the split writes, with the same cut and the start order 0, 1, .., k - 1
+    pub split-inspects : {rung : ℕ} {first : List ℕ} {tally : Tally} → resultOf G k bound ≡ parted rung first tally → (order : List ℕ) → k ≤ length order
+        → (inspectOf G k bound (tableAfter G k bound table ladder) order ≡ answered (cutOf G (tally .parts) ∷ []))
+        × (orderAfter G k bound (tableAfter G k bound table ladder) order ≡ over (identity k) order)
+    unfolding inspectOf orderAfter inspect.verdictOf inspect.partsOf place
+    split-inspects {tally = tally} e order lo =
+        rw (answers-parted e .table-is, take-over (tally .parts) table (vertices G) (I .whole), room, valid, fine-passed G k bound (tally .parts) (sound .proper) (split-fine e)) (refl, ap (λ (l : List ℕ). over l order) sorted)
+      where
+        I : Good G k bound (rowOf G k bound) (keptOf G k bound) (stateOf 0 (tally .parts))
+        I = split-good e
+
+        room : (leb (vertices G) (length (over (tally .parts) table)) && leb k (length order)) ≡ true
+        room = rw (length-over (tally .parts) table (omega (arith, I .whole)), le-leb _ _ lt) (le-leb _ _ lo)
+
+        sorted : orderOf (seen G (tally .parts)) k ≡ identity k
+        sorted = order-sorted (seen G (tally .parts)) k (omega (arith, sound .few)) (λ j l. I .forward j l)

@@ -7,12 +7,12 @@ use lib.Dec.{leb}
 use lib.ListN.{length}
 use Rattle.folds.specs.Fold.{over}
 use Rattle.graph.specs.Graph.{Graph, vertices, cutOf}
-use Rattle.validity.specs.Cause.{Answer, refusal}
+use Rattle.validity.specs.Cause.{Answer, refusal, answered, ifPassed}
 use Rattle.validity.specs.Check.{checked}
 use Rattle.validity.specs.declared.Cause.the-variants.{Uncut}
 use Rattle.validity.specs.declared.Verdict.{Verdict}
-use Rattle.validity.specs.declared.Verdict.the-variants.{Passed, Refused}
 use Rattle.hierarchy.specs.Climb.{keptOf, ladderAfter}
+use Rattle.moves.specs.Pass.{Tally}
 use Rattle.partition.specs.Phases.{Result, nothing, parted, resultOf}
 use Rattle.partition.specs.declared.Partitioned.{Partitioned}
 use Rattle.partition.specs.declared.Partitioned.the-variants.{Parted, Failed}
@@ -21,7 +21,7 @@ use Rattle.partition.specs.declared.Inner.the-variants.{Found, Nothing}
 
 -- document 01's number and values of each answer: the cut, the rounds kept, the rung that was cut and the number of moves; or the refusal and its place
 abbrev pub answerOf : Partitioned → Answer
-answerOf (Parted cut rounds rung moves) = record { number = 0; values = cut ∷ rounds ∷ rung ∷ moves ∷ [] }
+answerOf (Parted cut rounds rung moves) = answered (cut ∷ rounds ∷ rung ∷ moves ∷ [])
 answerOf (Failed cause place) = refusal cause place
 
 -- check 4: stage table under n, ladder under 9 × n
@@ -34,30 +34,36 @@ verdictOf G k bound table ladder = checked 512 G k bound (roomFor (vertices G) t
 -- the answer below the checks: 9 where no rung can be cut
 abbrev pub valuesOf : Graph → ℕ → Result → Answer
 valuesOf G kept nothing = refusal Uncut 0
-valuesOf G kept (parted rung first tally) = record { number = 0; values = cutOf G (tally .parts) ∷ kept ∷ rung ∷ tally .moves ∷ [] }
-
-abbrev pub answerAfter : Verdict → Answer → Answer
-answerAfter Passed answer = answer
-answerAfter (Refused cause place) answer = refusal cause place
+valuesOf G kept (parted rung first tally) = answered (cutOf G (tally .parts) ∷ kept ∷ rung ∷ tally .moves ∷ [])
 
 unfoldable pub splitOf : Graph → ℕ → ℕ → List ℕ → List ℕ → Answer
-splitOf G k bound table ladder = answerAfter (verdictOf G k bound table ladder) (valuesOf G (keptOf G k bound) (resultOf G k bound))
+splitOf G k bound table ladder = ifPassed (verdictOf G k bound table ladder) (valuesOf G (keptOf G k bound) (resultOf G k bound)) refusal
 
 -- the stage table afterwards: a refusal leaves it, 9 too
 abbrev pub partsInto : Result → List ℕ → List ℕ
 partsInto nothing table = table
 partsInto (parted rung first tally) table = over (tally .parts) table
 
-abbrev pub ifPassed : Verdict → List ℕ → List ℕ → List ℕ
-ifPassed Passed new old = new
-ifPassed (Refused cause place) new old = old
-
 unfoldable pub tableAfter : Graph → ℕ → ℕ → List ℕ → List ℕ → List ℕ
-tableAfter G k bound table ladder = ifPassed (verdictOf G k bound table ladder) (partsInto (resultOf G k bound) table) table
+tableAfter G k bound table ladder = ifPassed (verdictOf G k bound table ladder) (partsInto (resultOf G k bound) table) (λ cause place. table)
 
 -- the ladder afterwards: it holds its rows, also where no rung can be cut
 unfoldable pub ladderLeft : Graph → ℕ → ℕ → List ℕ → List ℕ → List ℕ
-ladderLeft G k bound table ladder = ifPassed (verdictOf G k bound table ladder) (ladderAfter G k bound ladder) ladder
+ladderLeft G k bound table ladder = ifPassed (verdictOf G k bound table ladder) (ladderAfter G k bound ladder) (λ cause place. ladder)
+
+-- what an answer of number 0 stands for: the phases' result, document 01's values, and both tables afterwards
+pub record Answers (G : Graph) (k bound : ℕ) (table ladder : List ℕ) (rung : ℕ) (first : List ℕ) (tally : Tally) : Type 0 where
+  pub result : resultOf G k bound ≡ parted rung first tally
+  pub answer : splitOf G k bound table ladder ≡ answered (cutOf G (tally .parts) ∷ keptOf G k bound ∷ rung ∷ tally .moves ∷ [])
+  pub table-is : tableAfter G k bound table ladder ≡ over (tally .parts) table
+  pub ladder-is : ladderLeft G k bound table ladder ≡ ladderAfter G k bound ladder
+
+-- and the refusal 9: the stage table is left, and the ladder holds its rows
+pub record Uncuttable (G : Graph) (k bound : ℕ) (table ladder : List ℕ) : Type 0 where
+  pub result : resultOf G k bound ≡ nothing
+  pub answer : splitOf G k bound table ladder ≡ refusal Uncut 0
+  pub table-is : tableAfter G k bound table ladder ≡ table
+  pub ladder-is : ladderLeft G k bound table ladder ≡ ladderAfter G k bound ladder
 
 -- the work below the checks, as code answers it
 abbrev pub innerOf : Graph → ℕ → Result → Inner
@@ -65,7 +71,7 @@ innerOf G kept nothing = Nothing
 innerOf G kept (parted rung first tally) = Found (cutOf G (tally .parts)) kept rung (tally .moves)
 
 abbrev pub answerBy : Inner → Answer
-answerBy (Found cut rounds rung moves) = record { number = 0; values = cut ∷ rounds ∷ rung ∷ moves ∷ [] }
+answerBy (Found cut rounds rung moves) = answered (cut ∷ rounds ∷ rung ∷ moves ∷ [])
 answerBy Nothing = refusal Uncut 0
 
 pub record Works (G : Graph) (k bound : ℕ) (table ladder table′ ladder′ : List ℕ) (r : Inner) : Type 0 where

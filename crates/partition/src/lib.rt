@@ -34,7 +34,16 @@ fn enough(n: usize, table: usize, ladder: usize) -> bool
 }
 
 // The three phases of the paper: coarsen, initial partition, refine.
-pub fn partition(costs: &[u16], starts: &[u16], ends: &[u16], widths: &[u16], k: usize, bound: u32, table: &mut [u16], ladder: &mut [u16]) -> Inner
+fn partition(
+    costs: &[u16],
+    starts: &[u16],
+    ends: &[u16],
+    widths: &[u16],
+    k: usize,
+    bound: u32,
+    table: &mut [u16],
+    ladder: &mut [u16],
+) -> Inner
     requires { ⌜ Sound (graphOf (now costs) (now starts) (now ends) (now widths)) k bound ⌝ }
     requires { ⌜ (length (now costs) ≤ length (now table)) × (9 * length (now costs) ≤ length (now ladder)) ⌝ }
     ensures { λ r. ⌜ Works (graphOf (now (costs .entry)) (now (starts .entry)) (now (ends .entry)) (now (widths .entry))) k bound (now (table .entry)) (now (ladder .entry)) (now (table .exit)) (now (ladder .exit)) r ⌝ }
@@ -49,7 +58,16 @@ pub fn partition(costs: &[u16], starts: &[u16], ends: &[u16], widths: &[u16], k:
 }
 
 // Document 01, the split: checks 1 to 8, then the phases; 9 where no rung can be cut.
-pub fn split(costs: &[u16], starts: &[u16], ends: &[u16], widths: &[u16], k: usize, bound: u32, table: &mut [u16], ladder: &mut [u16]) -> Partitioned
+pub fn split(
+    costs: &[u16],
+    starts: &[u16],
+    ends: &[u16],
+    widths: &[u16],
+    k: usize,
+    bound: u32,
+    table: &mut [u16],
+    ladder: &mut [u16],
+) -> Partitioned
     ensures { λ r. ⌜ answerOf r ≡ splitOf (graphOf (now (costs .entry)) (now (starts .entry)) (now (ends .entry)) (now (widths .entry))) k bound (now (table .entry)) (now (ladder .entry)) ⌝ }
     ensures { λ _. ⌜ now (table .exit) ≡ tableAfter (graphOf (now (costs .entry)) (now (starts .entry)) (now (ends .entry)) (now (widths .entry))) k bound (now (table .entry)) (now (ladder .entry)) ⌝ }
     ensures { λ _. ⌜ now (ladder .exit) ≡ ladderLeft (graphOf (now (costs .entry)) (now (starts .entry)) (now (ends .entry)) (now (widths .entry))) k bound (now (table .entry)) (now (ladder .entry)) ⌝ }

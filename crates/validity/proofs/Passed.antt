@@ -1,20 +1,21 @@
--- What passed checks say of the graph.
+-- Passed checks and what they say of the graph, both ways.
 use Prim.Native.Nat.{ℕ, zero, suc, _+_, _≤_, _<_}
 use mathlib.Core.Path.{_≡_, refl, sym, ap, _∙_}
 use mathlib.Core.Bool.{Bool, true, false, not, _&&_, _||_}
+use mathlib.Core.Logic.{_↔_}
 use mathlib.Core.List.{List}
 use native.Mathlib.Omega.{arith}
 use lib.Dec.{eqb, ltb, leb}
 use lib.ListN.{length, getD}
-use borrow.Author.Tests.{eqb-true, eqb-false, ltb-true, ltb-false, leb-false, eq-eqb, le-ltb}
+use borrow.Author.Tests.{eqb-true, eqb-false, ltb-true, ltb-false, leb-false, eq-eqb, ne-eqb, le-ltb, lt-leb}
 use Rattle.folds.specs.Fold.{pick, firstTo}
-use Rattle.folds.proofs.Cases.{by, no-bool, not-no, not-yes, both-i}
-use Rattle.folds.proofs.Searches.{firstTo-le, firstTo-none, firstTo-all, any-none}
+use Rattle.folds.proofs.Cases.{by, no-bool, not-no, not-yes, both, both-i}
+use Rattle.folds.proofs.Searches.{firstTo-le, firstTo-none, firstTo-all, any-e, any-none}
 use Rattle.graph.specs.Walk.{Acyclic}
 use Rattle.graph.specs.Graph.{Graph, vertices, edges, identity, seen, Edge, Formed, Proper}
 use Rattle.graph.proofs.Edges.{row-inside, identity-row}
 use Rattle.topology.specs.Reach.{lowestOnCycle}
-use Rattle.topology.proofs.Reaches.{none-acyclic}
+use Rattle.topology.proofs.Reaches.{none-acyclic, lowest-none}
 use Rattle.validity.specs.Sound.{Sound}
 use Rattle.validity.specs.Check.{refuseIf, refuseAt, badVertices, badParts, badEdges, badCost, badEnds, repeats, cyclesFrom, repeatsFrom, endsFrom, costsFrom, checked, Valid}
 use Rattle.validity.specs.declared.Cause.{Cause}
@@ -114,6 +115,57 @@ module _ (G : Graph) (k bound : ℕ) (valid : Valid G k bound) where
         apart = λ j h. ends-good j h .2;
         once = λ i j l h es ee. no-bool (sym (any-none j _ (last-four .2 j h) i l) ∙ both-i (eqb (getD (G .starts) i 0) (getD (G .starts) j 0)) _ (eq-eqb _ _ es) (eq-eqb _ _ ee));
       }
+
+-- a check that finds no fault passes what follows it
+pass-at : (cause : Cause) (i n : ℕ) (x : Verdict) → i ≡ n → refuseAt cause i n x ≡ x
+unfolding refuseAt
+pass-at cause i n x e = rw (le-ltb i n (omega arith))
+
+module _ (G : Graph) (k bound : ℕ) (S : Sound G k bound) where
+  no-vertices : badVertices 512 (vertices G) ≡ false
+  unfolding badVertices
+  no-vertices = rw (ne-eqb (vertices G) 0 (λ e. omega (arith, S .proper .some)), le-ltb 512 (vertices G) (S .proper .few))
+
+  no-parts : badParts k (vertices G) ≡ false
+  unfolding badParts
+  no-parts = rw (ne-eqb k 0 (λ e. omega (arith, S .some)), le-ltb 16 k (S .few), le-ltb (vertices G) k (S .filled))
+
+  no-edges : badEdges (length (G .starts)) (length (G .ends)) (length (G .widths)) ≡ false
+  unfolding badEdges
+  no-edges =
+      rw (eq-eqb (length (G .ends)) (length (G .starts)) (S .proper .formed .same-ends), eq-eqb (length (G .widths)) (length (G .starts)) (S .proper .formed .same-widths), le-ltb 1024 (length (G .starts)) (S .proper .many))
+
+  no-cost : (v : ℕ) → v < vertices G → badCost (G .costs) bound v ≡ false
+  unfolding badCost
+  no-cost v l = rw (ne-eqb (getD (G .costs) v 0) 0 (λ e. omega (arith, S .proper .costly v l)), le-ltb bound (getD (G .costs) v 0) (S .within v l))
+
+  no-ends : (j : ℕ) → j < edges G → badEnds (vertices G) (G .starts) (G .ends) (G .widths) j ≡ false
+  unfolding badEnds
+  no-ends j l =
+      rw (lt-leb (vertices G) (getD (G .starts) j 0) (S .proper .formed .start-in j l), lt-leb (vertices G) (getD (G .ends) j 0) (S .proper .formed .end-in j l), ne-eqb (getD (G .starts) j 0) (getD (G .ends) j 0) (S .apart j l))
+      (ne-eqb (getD (G .widths) j 0) 0 (λ e. omega (arith, S .proper .wide j l)))
+
+  no-repeat : (j : ℕ) → j < edges G → repeats (G .starts) (G .ends) j ≡ false
+  unfolding repeats
+  no-repeat j l =
+      by (repeats (G .starts) (G .ends) j)
+      (λ t.
+      let (i, h, e) = any-e j _ t in
+      let (a, b) = both (eqb (getD (G .starts) i 0) (getD (G .starts) j 0)) _ e in absurd (S .once i j h l (eqb-true _ _ a) (eqb-true _ _ b))) (λ f. f)
+
+  no-cycle : lowestOnCycle (seen G (identity (vertices G))) (vertices G) ≡ vertices G
+  no-cycle = lowest-none (seen G (identity (vertices G))) (vertices G) (row-inside (S .proper .formed) (identity-row G)) (S .acyclic)
+
+  -- a sound graph is valid: a call refuses for the causes that document 01 lists, and for no other
+  pub sound-valid : Valid G k bound
+  unfolding checked costsFrom endsFrom repeatsFrom cyclesFrom
+  sound-valid =
+      rw (no-vertices, no-parts, no-edges)
+      (pass-at _ _ _ _ (firstTo-all _ _ no-cost) ∙ pass-at _ _ _ _ (firstTo-all _ _ no-ends) ∙ pass-at _ _ _ _ (firstTo-all _ _ no-repeat) ∙ pass-at _ _ _ _ no-cycle)
+
+-- the checks pass exactly for a sound graph
+pub valid-exactly : (G : Graph) (k bound : ℕ) → Valid G k bound ↔ Sound G k bound
+valid-exactly G k bound = (valid-sound G k bound, sound-valid G k bound)
 
 -- the tables that the caller lends, and fewer vertices, do not matter to it
 pub passed-valid : (most : ℕ) (G : Graph) (k bound : ℕ) (room : Bool) → most ≤ 512 → checked most G k bound room ≡ Passed → (Valid G k bound) × (room ≡ true)

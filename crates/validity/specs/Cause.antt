@@ -32,6 +32,10 @@ pub record Answer : Type 0 where
 abbrev pub refusal : Cause → ℕ → Answer
 refusal cause place = record { number = numberOf cause; values = place ∷ [] }
 
-abbrev pub told : Verdict → List ℕ → Answer
-told Passed values = record { number = 0; values = values }
-told (Refused cause place) values = refusal cause place
+abbrev pub answered : List ℕ → Answer
+answered values = record { number = 0; values = values }
+
+-- what comes of a verdict: `next` where it passed, else what the refusal leaves
+abbrev pub ifPassed : {A : Type 0} → Verdict → A → (Cause → ℕ → A) → A
+ifPassed Passed next left = next
+ifPassed (Refused cause place) next left = left cause place

@@ -13,11 +13,6 @@ use Rattle.validity.specs.declared.Cause.the-variants.{Vertices, Parts, 
 use Rattle.validity.specs.declared.Verdict.{Verdict}
 use Rattle.validity.specs.declared.Verdict.the-variants.{Passed, Refused}
 
--- the first verdict, or where it passed the second
-abbrev pub andThen : Verdict → Verdict → Verdict
-andThen Passed next = next
-andThen (Refused cause place) next = Refused cause place
-
 -- a fault of the whole graph, at place 0, or what is found next
 abbrev pub refuseIf : Bool → Cause → Verdict → Verdict
 refuseIf fault cause next = pick fault (Refused cause 0) next
