@@ -11,7 +11,7 @@ use lib.Signed.{ltZ}
 use borrow.Author.Tests.{eqb-true, eqb-false, eq-eqb, ne-eqb, ltb-true}
 use Rattle.folds.specs.Fold.{turns}
 use Rattle.folds.proofs.Cases.{by, either, eq-or-ne, when-le}
-use Rattle.graph.specs.Graph.{Graph, Proper}
+use Rattle.graph.specs.Graph.{Graph, cutOf, Proper}
 use Rattle.graph.specs.Rows.{clusters}
 use Rattle.moves.specs.Move.{partOf, pull, gainTo, Allowed}
 use Rattle.moves.specs.Entries.{State, stateOf, Entry, move, down, step, after, AllAllowed, AllGain, cutAt, gain, gaining, downs, Good}
@@ -115,9 +115,8 @@ module _ (G : Graph) (P : Proper G) (k bound : ℕ) (rows : ℕ → List ℕ) (t
   pub steps-good : {r : ℕ} {es : List Entry} {s t : Tally} → Good G k bound rows top (stateOf r (s .parts)) → Steps r es s t → Good G k bound rows top (stateOf r (t .parts))
   steps-good I x = took-good I (x .took)
 
-  -- each move lowers the measure
-  pub steps-fall : {r : ℕ} {es : List Entry} {s t : Tally} → Good G k bound rows top (stateOf r (s .parts)) → Steps r es s t → t .moves + measure G (t .parts) ≤ s .moves + measure G (s .parts)
-  unfolding measure
+  -- each move that counts lowers the cut
+  pub steps-fall : {r : ℕ} {es : List Entry} {s t : Tally} → Good G k bound rows top (stateOf r (s .parts)) → Steps r es s t → t .moves + cutOf G (t .parts) ≤ s .moves + cutOf G (s .parts)
   steps-fall I x = omega (arith, took-few I (x .took), x .count)
 
   steps-still : {r : ℕ} {es : List Entry} {s t : Tally} → Steps r es s t → t .moves ≡ s .moves → t ≡ s
@@ -163,6 +162,7 @@ module _ (G : Graph) (P : Proper G) (k bound : ℕ) (rows : ℕ → List ℕ) (t
   -- a pass that moves something lowers the measure
   pub pass-falls : (r : ℕ) (s : Tally) → Good G k bound rows top (stateOf r (s .parts)) → (passOf G k bound (rows r) s .moves ≡ s .moves → ⊥)
       → measure G (passOf G k bound (rows r) s .parts) < measure G (s .parts)
+  unfolding measure
   pass-falls r s I n = let x = pass-steps r s in omega (arith, steps-fall I x, x .count)
 
   pub repeat-ends : (r fuel : ℕ) (s : Tally) → Good G k bound rows top (stateOf r (s .parts)) → measure G (s .parts) < fuel

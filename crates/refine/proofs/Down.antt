@@ -2,7 +2,7 @@
 use Prim.Native.Nat.{ℕ, zero, suc, _+_, _-_, _*_, _≤_, _<_, _^_}
 use mathlib.Core.Path.{_≡_, refl, sym, ap, subst, _∙_}
 use mathlib.Core.List.{List, _++_}
-use native.Mathlib.Nat.{le-mul-of-pos-right, mul-le-mul-right}
+use native.Mathlib.Nat.{le-mul-of-pos-right}
 use native.Mathlib.Omega.{arith}
 use lib.ListN.{length, getD, take, drop}
 use lib.Seq.{take-at}
@@ -15,7 +15,7 @@ use Rattle.graph.specs.Rows.{Hierarchy}
 use Rattle.graph.proofs.Edges.{crossing-le}
 use Rattle.counts.proofs.Totals.{proper-joins}
 use Rattle.moves.specs.Entries.{stateOf, Good}
-use Rattle.moves.specs.Pass.{Tally, tallyOf, measure, refinedOn, refinedBelow, refined}
+use Rattle.moves.specs.Pass.{Tally, tallyOf, refinedOn, refinedBelow, refined}
 use Rattle.moves.proofs.Entries.{nested, good-down}
 use Rattle.moves.proofs.Own.{refined-steps, steps-good, steps-fall}
 use Rattle.moves.proofs.Claims.{refined-good}
@@ -28,11 +28,11 @@ pub record Descent (G : Graph) (k bound : ℕ) (rows : ℕ → List ℕ) (top : 
   pub within : r ≤ suc top
   pub good : Good G k bound rows top (stateOf (r - 1) parts)
   pub rest : refinedBelow G k bound rows r (tallyOf parts moves) ≡ R
-  pub room : moves + measure G parts < 2 ^ 32
+  pub room : moves + cutOf G parts < 2 ^ 32
 
-pub measure-small : (G : Graph) (parts : List ℕ) → edges G ≤ 1024 → ((j : ℕ) → getD (G .widths) j 0 ≤ 65535) → measure G parts < 2 ^ 32
-unfolding measure cut
-measure-small G parts m w = omega (arith, sumTo-le (edges G) 65535 (crossing (seen G parts) (G .widths)) (crossing-le (seen G parts) (G .widths) 65535 w))
+pub cut-small : (G : Graph) (parts : List ℕ) → edges G ≤ 1024 → ((j : ℕ) → getD (G .widths) j 0 ≤ 65535) → cutOf G parts < 2 ^ 32
+unfolding cut
+cut-small G parts m w = omega (arith, sumTo-le (edges G) 65535 (crossing (seen G parts) (G .widths)) (crossing-le (seen G parts) (G .widths) 65535 w))
 
 module _ (G : Graph) (P : Proper G) (k bound : ℕ) (few : k ≤ 16) (rows : ℕ → List ℕ) (top : ℕ) (H : Hierarchy G rows top) where
   pub descent-start : (parts : List ℕ) → Good G k bound rows top (stateOf top parts) → ((j : ℕ) → getD (G .widths) j 0 ≤ 65535)
@@ -46,7 +46,7 @@ module _ (G : Graph) (P : Proper G) (k bound : ℕ) (few : k ≤ 16) (rows : ℕ
         within = omega arith;
         good = subst (λ (x : ℕ). Good G k bound rows top (stateOf x parts)) d I;
         rest = refl;
-        room = omega (arith, measure-small G parts (P .many) w);
+        room = omega (arith, cut-small G parts (P .many) w);
       })
 
   good-alone : {r : ℕ} {parts : List ℕ} → Good G k bound rows top (stateOf r parts) → Good G k bound (λ i. rows r) 0 (stateOf 0 parts)
@@ -120,26 +120,3 @@ module _ {G : Graph} {k bound : ℕ} {rows : List ℕ} {rung : ℕ} (table : Lis
         moves-is = ap (λ (t : Tally). t .moves) e;
         cut-is = h ∙ ap (cutOf G) (front ∙ ap (λ (t : Tally). t .parts) e);
       }
-
--- the rows up to a lower rung
-pub lower-top : {G : Graph} {rows : ℕ → List ℕ} {top rung : ℕ} → Hierarchy G rows top → rung ≤ top → Hierarchy G rows rung
-lower-top H l =
-    record {
-      bottom = H .bottom;
-      row = λ r h. H .row r (omega arith);
-      onto = λ r h. H .onto r (omega arith);
-      acyclic = λ r h. H .acyclic r (omega arith);
-      refines = λ r h. H .refines r (omega arith);
-    }
-
--- what a caller has: a good table on one of the kept rungs
-pub descends : {G : Graph} {k bound : ℕ} {rows : List ℕ} {top rung : ℕ} {parts : List ℕ} → Proper G → Hierarchy G (rowsIn rows (vertices G)) top → suc top * vertices G ≤ length rows
-    → Good G k bound (rowsIn rows (vertices G)) top (stateOf rung parts) → k ≤ 16 → Descends G k bound rows rung parts
-descends {G} {top = top} {rung = rung} P H held I few =
-    record {
-      proper = P;
-      hierarchy = lower-top H (I .kept);
-      good = record { kept = omega arith; whole = I .whole; below = I .below; shared = I .shared; forward = I .forward; filled = I .filled; within = I .within };
-      few = few;
-      held = let m : suc rung ≤ suc top = omega (arith, I .kept) in omega (arith, mul-le-mul-right (vertices G) m);
-    }

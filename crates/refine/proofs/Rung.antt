@@ -13,6 +13,7 @@ use Rattle.graph.specs.Rows.{clusters}
 use Rattle.graph.proofs.Edges.{length-through}
 use Rattle.counts.specs.Totals.{Keyed, Totals}
 use Rattle.counts.proofs.Totals.{totals-cost, clusters-few, proper-joins}
+use Rattle.graph.specs.Graph.{cutOf}
 use Rattle.moves.specs.Entries.{stateOf, Good}
 use Rattle.moves.specs.Pass.{Tally, tallyOf, passOf, measure, passes, repeated, refinedOn}
 use Rattle.moves.proofs.Entries.{alone}
@@ -38,7 +39,7 @@ pub record Stands (G : Graph) (k bound : ℕ) (row : List ℕ) (R : Tally) (w : 
   pub placed : Placed (w .table)
   pub good : Good G k bound (λ r. row) 0 (stateOf 0 (through row (w .table)))
   pub going : Going G k bound row (tallyOf (through row (w .table)) (w .moves)) R
-  pub room : w .moves + measure G (through row (w .table)) < 2 ^ 32
+  pub room : w .moves + cutOf G (through row (w .table)) < 2 ^ 32
 
 module _ (G : Graph) (P : Proper G) (k bound : ℕ) (few : k ≤ 16) (row costs : List ℕ) (C : Priced G row costs) where
   going-turn : (s R : Tally) → Good G k bound (λ r. row) 0 (stateOf 0 (s .parts)) → (passOf G k bound row s .moves ≡ s .moves → ⊥)

@@ -3,20 +3,20 @@ use Prim.Native.Nat.{ℕ, _+_, _≤_, _<_, _^_}
 use mathlib.Core.Path.{_≡_}
 use mathlib.Core.List.{List}
 use lib.ListN.{getD}
-use Rattle.graph.specs.Graph.{Graph, vertices, through, RowOf, Proper}
+use Rattle.graph.specs.Graph.{Graph, vertices, cutOf, through, RowOf, Proper}
 use Rattle.graph.specs.Rows.{clusters}
 use Rattle.moves.specs.Entries.{stateOf, Good}
-use Rattle.moves.specs.Pass.{tallyOf, measure, refinedOn}
+use Rattle.moves.specs.Pass.{tallyOf, refinedOn}
 use Rattle.visit.specs.Visit.{Placed}
 
--- a row with no empty cluster, and a table that is good on it; the moves so far leave room for those to come
+-- a row with no empty cluster, and a table that is good on it; the moves so far leave room for those to come, each of which lowers the cut
 pub record Ready (G : Graph) (k bound : ℕ) (row parts : List ℕ) (moves : ℕ) : Type 0 where
   pub proper : Proper G
   pub row-of : RowOf G row (clusters row)
   pub onto : (c : ℕ) → c < clusters row → (v : ℕ) × (v < vertices G) × (getD row v 0 ≡ c)
   pub good : Good G k bound (λ r. row) 0 (stateOf 0 parts)
   pub few : k ≤ 16
-  pub room : moves + measure G parts < 2 ^ 32
+  pub room : moves + cutOf G parts < 2 ^ 32
 
 -- the clusters' table and the moves after the passes
 pub record Settled (G : Graph) (k bound : ℕ) (row table : List ℕ) (moves : ℕ) (table′ : List ℕ) (moves′ : ℕ) : Type 0 where
