@@ -1,7 +1,6 @@
--- Counts and costs of clusters: joining in pairs at most halves the count, and costs are summed.
+-- Counts and costs of clusters: joining in pairs at most halves the count, and the costs sum to those of the vertices.
 use Prim.Native.Nat.{ℕ, zero, suc, _+_, _*_, _<_, _≤_}
-use mathlib.Core.Path.{_≡_, refl, sym, ap, _∙_}
-use mathlib.Core.Bool.{Bool, true, false, not}
+use mathlib.Core.Path.{_≡_, refl, sym, _∙_}
 use mathlib.Core.Logic.{_⊎_}
 use mathlib.Core.List.{List}
 use native.Mathlib.Omega.{arith}
@@ -10,12 +9,12 @@ use lib.ListN.{length, getD}
 use borrow.Author.Tests.{eqb-true, eq-eqb, ne-eqb, ltb-true, ltb-false}
 use Rattle.folds.specs.Fold.{when, sumTo, anyTo}
 use Rattle.folds.proofs.Cases.{by, either, eq-or-ne, when-le}
-use Rattle.folds.proofs.Sums.{sumTo-ext, sumTo-mono, sumTo-swap, sumTo-only, sumTo-add, sumTo-le, sumTo-none, sumTo-when}
+use Rattle.folds.proofs.Sums.{sumTo-ext, sumTo-mono, sumTo-swap, sumTo-only, sumTo-add, sumTo-le, sumTo-none}
 use Rattle.folds.proofs.Searches.{any-e, any-none}
 use Rattle.graph.specs.Graph.{costIn, partCost}
 use Rattle.graph.specs.Rows.{clusters}
 use Rattle.contraction.specs.Next.{joinedRow}
-use Rattle.contraction.proofs.Next.{Onto, number, next-at, number-mate, number-apart, length-next, below-clusters}
+use Rattle.contraction.proofs.Next.{Onto, number, next-at, number-apart, length-next, below-clusters}
 
 ones : (n : ℕ) → sumTo n (λ k. 1) ≡ n
 unfolding sumTo
@@ -59,8 +58,8 @@ module _ (row : List ℕ) (m : ℕ → ℕ) (back : (x : ℕ) → m (m x) ≡ x)
       one x c lx lc ex =
           either (eq-or-ne (number row m c) d)
           (λ e. either (apart x c lx lc (ex ∙ sym e))
-            (λ q. rw (eq-eqb x c (sym q)) (omega (arith, when-le (eqb (number row m c) d) 1)))
-            (λ q. rw (eq-eqb (m x) c (sym q)) (omega (arith, when-le (eqb (number row m c) d) 1))))
+          (λ q. rw (eq-eqb x c (sym q)) (omega (arith, when-le (eqb (number row m c) d) 1)))
+          (λ q. rw (eq-eqb (m x) c (sym q)) (omega (arith, when-le (eqb (number row m c) d) 1))))
           (λ n. rw (ne-eqb (number row m c) d n) (omega arith))
 
   -- the next row has at least half as many clusters
@@ -69,38 +68,9 @@ module _ (row : List ℕ) (m : ℕ → ℕ) (back : (x : ℕ) → m (m x) ≡ x)
       let g = clusters row in
       let g′ = clusters (joinedRow row m) in
       let e : g ≡ sumTo g′ (λ d. sumTo g (λ c. when (eqb (number row m c) d) 1)) =
-        sym (ones g) ∙ sumTo-ext g _ _ (λ c l. sym (sumTo-only g′ (number row m c) (λ _. 1) (number-in c l)))
-        ∙ sumTo-swap g g′ (λ c d. when (eqb (number row m c) d) 1) in
+      sym (ones g) ∙ sumTo-ext g _ _ (λ c l. sym (sumTo-only g′ (number row m c) (λ _. 1) (number-in c l)))
+      ∙ sumTo-swap g g′ (λ c d. when (eqb (number row m c) d) 1) in
       omega (arith, sumTo-le g′ 2 (λ d. sumTo g (λ c. when (eqb (number row m c) d) 1)) few)
-
-  -- a new cluster costs what its clusters cost
-  pub next-cost : (costs : List ℕ) → length costs ≡ length row → (c : ℕ) → c < clusters row
-      → partCost costs (joinedRow row m) (number row m c) ≡ partCost costs row c + when (not (eqb c (m c))) (partCost costs row (m c))
-  unfolding partCost costIn
-  next-cost costs n c lc =
-      sumTo-ext (length costs) _ _ (λ v l. share v (rw (← n) l))
-      ∙ sumTo-add (length costs) (λ v. when (eqb (getD row v 0) c) (getD costs v 0)) (λ v. when (not (eqb c (m c))) (when (eqb (getD row v 0) (m c)) (getD costs v 0)))
-      ∙ ap (λ (z : ℕ). sumTo (length costs) (λ v. when (eqb (getD row v 0) c) (getD costs v 0)) + z) (sumTo-when (length costs) (not (eqb c (m c))) (λ v. when (eqb (getD row v 0) (m c)) (getD costs v 0)))
-    where
-      share : (v : ℕ) → v < length row
-          → when (eqb (getD (joinedRow row m) v 0) (number row m c)) (getD costs v 0)
-          ≡ when (eqb (getD row v 0) c) (getD costs v 0) + when (not (eqb c (m c))) (when (eqb (getD row v 0) (m c)) (getD costs v 0))
-      share v l =
-          let a = getD row v 0 in
-          either (eq-or-ne a c)
-          (λ e. rw (next-at row m v l, e, eq-eqb (number row m c) (number row m c) refl, eq-eqb c c refl) (mine (eqb c (m c)) (getD costs v 0)))
-          (λ ne. either (eq-or-ne a (m c))
-            (λ e. rw (next-at row m v l, ne-eqb a c ne, e, number-mate row m back c, eq-eqb (number row m c) (number row m c) refl, eq-eqb (m c) (m c) refl, ne-eqb c (m c) (λ q. ne (e ∙ sym q))) (omega arith))
-            (λ nm. rw (next-at row m v l, ne-eqb a c ne, ne-eqb a (m c) nm, ne-eqb (number row m a) (number row m c)
-              (λ q. either (apart c a lc (below-clusters row v l) (sym q)) ne nm)) (none (not (eqb c (m c))))))
-        where
-          mine : (t : Bool) (w : ℕ) → w ≡ w + when (not t) (when t w)
-          mine true w = omega arith
-          mine false w = omega arith
-
-          none : (t : Bool) → _≡_ {A = ℕ} 0 (0 + when t 0)
-          none true = refl
-          none false = refl
 
 -- the costs of a row's clusters sum to those of the vertices
 pub costs-sum : (costs row : List ℕ) (g : ℕ) → ((v : ℕ) → v < length costs → getD row v 0 < g) → sumTo g (partCost costs row) ≡ sumTo (length costs) (λ v. getD costs v 0)

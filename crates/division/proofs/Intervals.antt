@@ -10,7 +10,7 @@ use lib.ListN.{length, getD}
 use borrow.Author.Tests.{ltb-true, ltb-false, lt-ltb, le-ltb, leb-true, leb-false, le-leb, lt-leb, eq-eqb, ne-eqb, eqb-true, eqb-false}
 use Rattle.folds.specs.Fold.{pick, when, sumTo, firstTo}
 use Rattle.folds.proofs.Cases.{by, both}
-use Rattle.folds.proofs.Sums.{sumTo-ext, sumTo-add, sumTo-none, sumTo-mono}
+use Rattle.folds.proofs.Sums.{sumTo-ext, sumTo-add, sumTo-none}
 use Rattle.folds.proofs.Searches.{firstTo-zero}
 use Rattle.division.specs.Division.{Rising, fits, intervalOf, between}
 use Rattle.division.proofs.Best.{outs}
@@ -108,16 +108,6 @@ module _ (n : ℕ) (p c : ℕ → ℕ) where
           by (eqb q x)
           (λ s. let e = eqb-true q x s in rw (t, s, lt-ltb q (x + 1) (omega arith), le-leb y q (omega arith)) (sym (zero-add w)))
           (λ s. let e = eqb-false q x s in rw (t, s, le-ltb q (x + 1) (omega arith), le-leb y q (omega arith))))
-
-  pub between-mono : (y x z : ℕ) → x ≤ z → between n p c y x ≤ between n p c y z
-  unfolding between
-  between-mono y x z l = sumTo-mono n _ _ (λ v _. one (p v) (c v))
-    where
-      one : (q w : ℕ) → when (leb y q && ltb q x) w ≤ when (leb y q && ltb q z) w
-      one q w =
-          by (leb y q)
-          (λ s. by (ltb q x) (λ t. rw (s, t, lt-ltb q z (omega (arith, ltb-true q x t))) (omega arith)) (λ t. rw (s, t) (omega arith)))
-          (λ s. rw s (omega arith))
 
 -- m edges from position s to position e, of width w, none backward
 module _ (m : ℕ) (s e w : ℕ → ℕ) where

@@ -3,4 +3,3 @@ pub mod Tried
 pub mod Own
 pub mod Climbs
 pub mod Rising
-pub mod Claims
