@@ -4,7 +4,7 @@ use mathlib.Core.Bool.{Bool, true, false, _&&_}
 use mathlib.Core.List.{List, [], _∷_}
 use lib.Dec.{eqb}
 use lib.ListN.{replicate}
-use Rattle.folds.specs.Fold.{pick, over}
+use Rattle.folds.specs.Fold.{over}
 use Rattle.graph.specs.Graph.{Graph, graphOf, vertices}
 use Rattle.validity.specs.Cause.{Answer}
 use Rattle.inspection.specs.Inspect.{inspectOf, orderAfter}

@@ -7,7 +7,7 @@ use Rattle.folds.specs.Fold.{sumTo, countTo, maxTo, firstTo, anyTo, allTo, list
 use Rattle.graph.specs.Walk.{one, more, Cycle}
 use Rattle.graph.specs.Graph.{Graph, graphOf, identity, Arcs, seen, edge, Edge}
 use Rattle.topology.specs.Level.{rise, levelsAfter, levelsOf}
-use Rattle.contraction.specs.Rules.{Pair, pair, Round}
+use Rattle.contraction.specs.Rules.{Pair, pair}
 use Rattle.contraction.specs.Tests.{allOf, next, onlySuccessor, onlyPredecessor, ruleOne, ruleTwo, fits, keeps}
 use Rattle.contraction.specs.Next.{mateOf, together, lowestOf, leads, numbered, joinedRow, nextRow}
 

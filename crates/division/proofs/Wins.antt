@@ -9,7 +9,6 @@ use native.Mathlib.Nat.{not-suc-le-zero, suc-inj}
 use lib.ListN.{length}
 use lib.Dec.{ltb}
 use borrow.Author.Tests.{ltb-true, ltb-false, lt-ltb}
-use Rattle.folds.specs.Fold.{pick}
 use Rattle.folds.proofs.Cases.{by, either, both, both-i}
 use Rattle.division.specs.Division.{Rising, fits, Feasible, NotAfter, divisions, Pick, none, some, better, given, least}
 use Rattle.division.specs.Table.{bestBelow}

@@ -1,20 +1,20 @@
 -- The whole inspection, from what its steps answered; and the claim about it.
-use Prim.Native.Nat.{ℕ, _+_, _≤_, _<_}
-use mathlib.Core.Path.{_≡_, refl, sym, ap, _∙_}
-use mathlib.Core.Bool.{Bool, true, false, _&&_}
+use Prim.Native.Nat.{ℕ, _≤_}
+use mathlib.Core.Path.{_≡_, refl, sym, _∙_}
+use mathlib.Core.Bool.{Bool, true, _&&_}
 use mathlib.Core.Logic.{_↔_}
 use mathlib.Core.List.{List, [], _∷_}
 use native.Mathlib.Omega.{arith}
 use lib.Dec.{leb}
-use lib.ListN.{length, getD, take, length-take}
-use lib.Seq.{length-take-le, getD-take}
+use lib.ListN.{length}
+use lib.Seq.{length-take-le}
 use borrow.Author.Tests.{leb-true, le-leb}
 use Rattle.folds.specs.Fold.{over}
 use Rattle.folds.proofs.Cases.{both}
-use Rattle.graph.specs.Graph.{Graph, vertices, edges, seen, cutOf, Proper}
+use Rattle.graph.specs.Graph.{Graph, vertices, seen, cutOf, Proper}
 use Rattle.graph.specs.Links.{Joins}
 use Rattle.topology.specs.Order.{orderOf}
-use Rattle.validity.specs.Cause.{Answer, numberOf, refusal, answered, ifPassed}
+use Rattle.validity.specs.Cause.{numberOf, refusal, answered, ifPassed}
 use Rattle.validity.specs.Check.{checked, Valid}
 use Rattle.validity.specs.Sound.{Sound}
 use Rattle.validity.specs.declared.Cause.{Cause}

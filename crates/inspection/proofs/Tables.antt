@@ -1,26 +1,24 @@
 -- Checks 10 to 13, from the sums that code holds, and what they say.
-use Prim.Native.Nat.{ℕ, zero, suc, _+_, _≤_, _<_}
-use mathlib.Core.Path.{_≡_, refl, sym, ap, _∙_}
-use mathlib.Core.Bool.{Bool, true, false, not, _&&_}
-use mathlib.Core.Logic.{_↔_}
+use Prim.Native.Nat.{ℕ, _≤_, _<_}
+use mathlib.Core.Path.{_≡_, sym, ap, _∙_}
+use mathlib.Core.Bool.{true, not}
 use mathlib.Core.List.{List}
 use native.Mathlib.Omega.{arith}
-use lib.Dec.{eqb, ltb, leb}
+use lib.Dec.{eqb, ltb}
 use lib.ListN.{length, getD}
-use borrow.Author.Tests.{eqb-true, eqb-false, eq-eqb, ne-eqb, ltb-true, ltb-false, leb-false, lt-leb, le-ltb, lt-ltb}
+use borrow.Author.Tests.{eqb-true, eq-eqb, ltb-false, leb-false, lt-leb, le-ltb}
 use Rattle.folds.specs.Fold.{when, sumTo, anyTo, firstTo}
-use Rattle.folds.proofs.Cases.{by, no-bool, not-no, not-yes, same-test}
+use Rattle.folds.proofs.Cases.{by, not-no, not-yes, same-test}
 use Rattle.folds.proofs.Sums.{sumTo-none, sumTo-member}
 use Rattle.folds.proofs.Searches.{firstTo-le, firstTo-none, firstTo-all, firstTo-ext, any-i, any-e, any-none}
-use Rattle.graph.specs.Walk.{Acyclic}
-use Rattle.graph.specs.Graph.{Graph, vertices, arcs, seen, Edge, Inside, costIn, partCost, Proper}
-use Rattle.graph.specs.Links.{Summed, Ends, Joins}
+use Rattle.graph.specs.Graph.{Graph, vertices, arcs, seen, Inside, costIn, partCost, Proper}
+use Rattle.graph.specs.Links.{Summed, Joins}
 use Rattle.topology.specs.Reach.{lowestOnCycle}
 use Rattle.topology.proofs.Reaches.{none-acyclic, lowest-none}
 use Rattle.validity.specs.Check.{refuseAt}
 use Rattle.validity.specs.declared.Cause.{Cause}
 use Rattle.validity.specs.declared.Verdict.{Verdict}
-use Rattle.validity.specs.declared.Verdict.the-variants.{Passed, Refused}
+use Rattle.validity.specs.declared.Verdict.the-variants.{Passed}
 use Rattle.validity.proofs.Passed.{passed-at}
 use Rattle.inspection.specs.Table.{badEntry, isEmpty, isOver, cyclesFrom, tableOf, Fine, Tabled}
 

@@ -9,7 +9,7 @@ use lib.Dec.{eqb}
 use lib.ListN.{getD}
 use borrow.Author.Tests.{eqb-true, eqb-false, eq-eqb, ne-eqb}
 use Rattle.folds.specs.Fold.{pick, when}
-use Rattle.folds.proofs.Cases.{by, either, eq-or-ne, when-zero, both, not-yes}
+use Rattle.folds.proofs.Cases.{either, eq-or-ne, when-zero, both, not-yes}
 use Rattle.folds.proofs.Sums.{sumTo-add, sumTo-ext, sumTo-when}
 use Rattle.graph.specs.Graph.{Graph, vertices, edges, via, crossing, cut, cutOf, costIn, partCost, Formed}
 use Rattle.moves.specs.Move.{leaves, share, pull}

@@ -13,7 +13,7 @@ use Rattle.folds.specs.Fold.{over}
 use Rattle.folds.proofs.Cases.{either, eq-or-ne}
 use Rattle.folds.proofs.Slices.{take-over, length-over}
 use Rattle.graph.specs.Walk.{Acyclic}
-use Rattle.graph.specs.Graph.{Graph, vertices, edges, identity, seen, Edge, cutOf, partCost}
+use Rattle.graph.specs.Graph.{Graph, vertices, identity, seen, Edge, cutOf}
 use Rattle.graph.specs.Rows.{clusters, Hierarchy}
 use Rattle.graph.proofs.Walks.{rank-law}
 use Rattle.graph.proofs.Edges.{edge-arc, edge-other, row-inside}
@@ -37,9 +37,9 @@ use Rattle.contraction.proofs.Rounds.{rounds-acyclic}
 use Rattle.hierarchy.specs.Climb.{keptOf, rowOf, ladderAfter}
 use Rattle.hierarchy.specs.Claim.{OwnRounds}
 use Rattle.hierarchy.proofs.Own.{own-rounds, rows-hierarchy}
-use Rattle.initial.specs.Initial.{Chosen, found, uncut, chosenOf, LeastCut, Divides}
+use Rattle.initial.specs.Initial.{Chosen, found, uncut, LeastCut, Divides}
 use Rattle.initial.proofs.Claims.{initial-least, none-exactly, initial-good}
-use Rattle.moves.specs.Entries.{State, stateOf, Entry, down, after, AllAllowed, cutAt, gain, gains, Good}
+use Rattle.moves.specs.Entries.{stateOf, Entry, down, after, AllAllowed, cutAt, gain, gains, Good}
 use Rattle.moves.specs.Pass.{Tally, refined}
 use Rattle.moves.specs.Own.{ownMoves, Took}
 use Rattle.moves.specs.Move.{place, partSize}

@@ -1,13 +1,13 @@
 -- What depends on the rows of the kept rungs alone.
 use Prim.Native.Nat.{ℕ, zero, suc, _≤_, _<_}
-use mathlib.Core.Path.{_≡_, refl, sym, ap, _∙_}
+use mathlib.Core.Path.{_≡_, refl, ap}
 use mathlib.Core.List.{List}
 use native.Mathlib.Omega.{arith}
 use Rattle.graph.specs.Graph.{Graph}
 use Rattle.division.specs.Division.{Pick}
-use Rattle.initial.specs.Initial.{Chosen, orLower, highest, initialOf, chosenOf}
+use Rattle.initial.specs.Initial.{highest, initialOf, chosenOf}
 use Rattle.initial.specs.Initial as initial
-use Rattle.moves.specs.Pass.{Tally, tallyOf, refinedOn, refinedBelow, refined}
+use Rattle.moves.specs.Pass.{Tally, tallyOf, refinedBelow, refined}
 use Rattle.moves.specs.Entries.{stateOf}
 use Rattle.moves.specs.Move.{place, partSize}
 use Rattle.moves.specs.Entries as moves

@@ -1,32 +1,32 @@
 -- The phases one after the other, from what each call answered.
-use Prim.Native.Nat.{ℕ, zero, suc, _+_, _*_, _/_, _≤_, _<_}
+use Prim.Native.Nat.{ℕ, suc, _+_, _*_, _/_, _≤_}
 use mathlib.Core.Path.{_≡_, refl, sym, ap, _∙_}
 use mathlib.Core.Bool.{Bool, true, _&&_}
-use mathlib.Core.List.{List, [], _∷_, _++_}
+use mathlib.Core.List.{List, _++_}
 use mathlib.Core.Logic.{_↔_}
 use native.Mathlib.Nat.{mul-le-mul-right, le-div-iff-mul-le}
 use native.Mathlib.Omega.{arith}
-use lib.ListN.{length, getD, take, drop}
+use lib.ListN.{length, take, drop}
 use lib.Dec.{leb}
 use lib.Seq.{drop-at}
 use borrow.Author.Tests.{leb-true, le-leb}
 use Rattle.folds.proofs.Cases.{both, same-test}
-use Rattle.folds.specs.Fold.{over, part}
+use Rattle.folds.specs.Fold.{over}
 use Rattle.folds.proofs.Slices.{take-over, length-over}
-use Rattle.graph.specs.Graph.{Graph, vertices, cutOf}
+use Rattle.graph.specs.Graph.{Graph, vertices}
 use Rattle.graph.specs.Rows.{Hierarchy}
-use Rattle.validity.specs.Cause.{Answer, refusal}
+use Rattle.validity.specs.Cause.{refusal}
 use Rattle.validity.specs.Check.{checked, Valid}
 use Rattle.validity.specs.Sound.{Sound}
 use Rattle.validity.specs.declared.Cause.{Cause}
 use Rattle.validity.specs.declared.Verdict.{Verdict}
 use Rattle.validity.specs.declared.Verdict.the-variants.{Passed, Refused}
 use Rattle.validity.proofs.Passed.{passed-valid, valid-sound}
-use Rattle.hierarchy.specs.Climb.{rowsOf, above, keptOf, rowOf, flat, ladderAfter}
+use Rattle.hierarchy.specs.Climb.{rowsOf, keptOf, rowOf, flat, ladderAfter}
 use Rattle.hierarchy.specs.Built.{Built, Buildable}
 use Rattle.hierarchy.proofs.Flat.{length-flat}
 use Rattle.hierarchy.proofs.Own.{rows-hierarchy, hierarchy-ext, row-sound, ladder-row, kept-few}
-use Rattle.initial.specs.Initial.{Chosen, found, uncut, chosenOf}
+use Rattle.initial.specs.Initial.{found, uncut, chosenOf}
 use Rattle.initial.specs.Answers.{Chooses, Lent}
 use Rattle.graph.specs.Rows.{rowsIn}
 use Rattle.initial.specs.declared.Initial.{Initial}
@@ -39,8 +39,8 @@ use Rattle.moves.specs.Pass.{refined}
 use Rattle.moves.proofs.Claims.{refined-good}
 use Rattle.refine.specs.Down.{Descends, Refined}
 use Rattle.refine.specs.declared.Outcome.{Outcome}
-use Rattle.partition.specs.Phases.{Result, nothing, parted, firstOf, refinedFrom, resultOf}
-use Rattle.partition.specs.Split.{answerBy, innerOf, valuesOf, roomFor, verdictOf, splitOf, tableAfter, ladderLeft, partsInto, Works}
+use Rattle.partition.specs.Phases.{Result, nothing, parted, firstOf, resultOf}
+use Rattle.partition.specs.Split.{answerBy, innerOf, valuesOf, roomFor, verdictOf, splitOf, tableAfter, ladderLeft, Works}
 use Rattle.partition.specs.declared.Inner.{Inner}
 use Rattle.partition.specs.declared.Inner.the-variants.{Found, Nothing}
 use Rattle.partition.proofs.Rows.{chosen-ext, refined-ext, good-start}

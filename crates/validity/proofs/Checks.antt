@@ -1,28 +1,27 @@
 -- The checks, from what the code's branches say, and what passed checks say of the lists.
-use Prim.Native.Nat.{ℕ, zero, suc, _+_, _-_, _≤_, _<_}
+use Prim.Native.Nat.{ℕ, _-_, _≤_, _<_}
 use mathlib.Core.Path.{_≡_, refl, sym, ap, _∙_}
-use mathlib.Core.Bool.{Bool, true, false, not, _&&_, _||_}
+use mathlib.Core.Bool.{Bool, true, false, not, _||_}
 use mathlib.Core.List.{List}
 use native.Mathlib.Nat.{sub-zero}
 use native.Mathlib.Omega.{arith}
 use lib.Dec.{eqb, ltb, leb}
 use lib.ListN.{length, getD, take, length-append}
-use borrow.Author.Tests.{eqb-true, eqb-false, ltb-true, ltb-false, leb-true, leb-false, lt-ltb, le-ltb}
-use Rattle.folds.specs.Fold.{pick, firstTo, over, Read}
-use Rattle.folds.proofs.Cases.{by, no-bool, not-no}
+use borrow.Author.Tests.{eqb-true, ltb-false, leb-false, lt-ltb, le-ltb}
+use Rattle.folds.specs.Fold.{firstTo, over, Read}
+use Rattle.folds.proofs.Cases.{no-bool, not-no}
 use Rattle.folds.proofs.Searches.{firstTo-le, firstTo-none}
 use Rattle.folds.proofs.Slices.{take-over}
 use Rattle.folds.proofs.Lists.{length-listTo}
-use Rattle.graph.specs.Walk.{Acyclic}
-use Rattle.graph.specs.Graph.{Graph, graphOf, vertices, edges, identity, via, arcs, seen, Edge, Inside, Formed, Proper}
-use Rattle.graph.specs.Links.{Ends, Joins}
+use Rattle.graph.specs.Graph.{identity, via, arcs, Inside}
+use Rattle.graph.specs.Links.{Joins}
 use Rattle.graph.proofs.Edges.{identity-at}
 use Rattle.topology.specs.Reach.{lowestOnCycle}
 use Rattle.validity.specs.Fit.{Fits}
-use Rattle.validity.specs.Check.{refuseIf, refuseAt, badVertices, badParts, badEdges, badCost, badEnds, repeats, cyclesFrom, repeatsFrom, endsFrom, costsFrom, checked, Valid}
+use Rattle.validity.specs.Check.{refuseAt, badVertices, badEdges, badEnds}
 use Rattle.validity.specs.declared.Cause.{Cause}
 use Rattle.validity.specs.declared.Verdict.{Verdict}
-use Rattle.validity.specs.declared.Verdict.the-variants.{Passed, Refused}
+use Rattle.validity.specs.declared.Verdict.the-variants.{Refused}
 
 -- a chain of checks, from what the branches say
 module _ (cause : Cause) (i j n : ℕ) (x : Verdict) where

@@ -1,18 +1,17 @@
 -- Passed checks and what they say of the graph, both ways.
-use Prim.Native.Nat.{ℕ, zero, suc, _+_, _≤_, _<_}
-use mathlib.Core.Path.{_≡_, refl, sym, ap, _∙_}
-use mathlib.Core.Bool.{Bool, true, false, not, _&&_, _||_}
+use Prim.Native.Nat.{ℕ, zero, suc, _≤_, _<_}
+use mathlib.Core.Path.{_≡_, refl, sym, _∙_}
+use mathlib.Core.Bool.{Bool, true, false, not}
 use mathlib.Core.Logic.{_↔_}
-use mathlib.Core.List.{List}
 use native.Mathlib.Omega.{arith}
 use lib.Dec.{eqb, ltb, leb}
 use lib.ListN.{length, getD}
-use borrow.Author.Tests.{eqb-true, eqb-false, ltb-true, ltb-false, leb-false, eq-eqb, ne-eqb, le-ltb, lt-leb}
-use Rattle.folds.specs.Fold.{pick, firstTo}
-use Rattle.folds.proofs.Cases.{by, no-bool, not-no, not-yes, both, both-i}
+use borrow.Author.Tests.{eqb-true, eqb-false, ltb-false, leb-false, eq-eqb, ne-eqb, le-ltb, lt-leb}
+use Rattle.folds.specs.Fold.{firstTo}
+use Rattle.folds.proofs.Cases.{by, no-bool, not-no, both, both-i}
 use Rattle.folds.proofs.Searches.{firstTo-le, firstTo-none, firstTo-all, any-e, any-none}
 use Rattle.graph.specs.Walk.{Acyclic}
-use Rattle.graph.specs.Graph.{Graph, vertices, edges, identity, seen, Edge, Formed, Proper}
+use Rattle.graph.specs.Graph.{Graph, vertices, edges, identity, seen, Edge, Proper}
 use Rattle.graph.proofs.Edges.{row-inside, identity-row}
 use Rattle.topology.specs.Reach.{lowestOnCycle}
 use Rattle.topology.proofs.Reaches.{none-acyclic, lowest-none}
@@ -20,7 +19,7 @@ use Rattle.validity.specs.Sound.{Sound}
 use Rattle.validity.specs.Check.{refuseIf, refuseAt, badVertices, badParts, badEdges, badCost, badEnds, repeats, cyclesFrom, repeatsFrom, endsFrom, costsFrom, checked, Valid}
 use Rattle.validity.specs.declared.Cause.{Cause}
 use Rattle.validity.specs.declared.Verdict.{Verdict}
-use Rattle.validity.specs.declared.Verdict.the-variants.{Passed, Refused}
+use Rattle.validity.specs.declared.Verdict.the-variants.{Passed}
 use Rattle.validity.proofs.Checks.{neither}
 
 positive : (x : ℕ) → (x ≡ 0 → ⊥) → 0 < x

@@ -1,5 +1,5 @@
 -- Marks of repeated edges: one start after the other, each along its edges.
-use Prim.Native.Nat.{ℕ, zero, suc, _+_, _≤_, _<_}
+use Prim.Native.Nat.{ℕ, _+_, _≤_, _<_}
 use mathlib.Core.Path.{_≡_, refl, sym, ap, _∙_}
 use mathlib.Core.Bool.{Bool, true, false, _&&_, _||_}
 use mathlib.Core.List.{List}
@@ -8,7 +8,7 @@ use lib.Dec.{eqb, ltb}
 use lib.ListN.{length, getD, set, length-set}
 use lib.Seq.{getD-set-same, getD-set-other}
 use borrow.Author.Tests.{eq-eqb, ne-eqb, lt-ltb, le-ltb, ltb-true, ltb-false}
-use Rattle.folds.specs.Fold.{when, anyTo, firstTo, zeros}
+use Rattle.folds.specs.Fold.{when, anyTo, zeros}
 use Rattle.folds.proofs.Cases.{by, either, eq-or-ne, and-false, same-test}
 use Rattle.folds.proofs.Searches.{any-i, any-step, any-zero, any-skip}
 use Rattle.folds.proofs.Lists.{set-at-most, getD-zeros, length-zeros}
@@ -66,8 +66,8 @@ module _ {starts ends : List ℕ} {s : ℕ} where
         stamped = λ x lx. M .stamped x lx ∙ sym (any-skip (goes starts ends s x) j h l (λ i a b. rw (ne-eqb (getD starts i 0) s (none i a b))));
         is = λ i li. M .is i li ∙ ap (λ (t : Bool). when (t && repeats starts ends i) 1) (either (eq-or-ne (getD starts i 0) s)
             (λ e. done-same starts s i j h (same-test _ _
-              (λ t. lt-ltb i h (omega (arith, ltb-true i j t)))
-              (λ t. by (ltb i j) (λ u. u) (λ u. absurd (none i (ltb-false i j u) (ltb-true i h t) e)))))
+            (λ t. lt-ltb i h (omega (arith, ltb-true i j t)))
+            (λ t. by (ltb i j) (λ u. u) (λ u. absurd (none i (ltb-false i j u) (ltb-true i h t) e)))))
             (λ n. done-other starts s i j h n));
       }
 
@@ -82,13 +82,13 @@ module _ {starts ends : List ℕ} {s : ℕ} where
         low = set-at-most stamps b (s + 1) (s + 1) (s + 1) (omega arith) (omega arith) (M .low);
         stamped = λ x lx. either (eq-or-ne x b)
             (λ e. rw (e, getD-set-same stamps b (s + 1) 0 (omega (arith, M .tall)), eq-eqb (s + 1) (s + 1) refl)
-              (sym (any-i (j + 1) (goes starts ends s b) j (omega arith) (rw (eq-eqb (getD starts j 0) s es) (eq-eqb (getD ends j 0) b eb)))))
+            (sym (any-i (j + 1) (goes starts ends s b) j (omega arith) (rw (eq-eqb (getD starts j 0) s es) (eq-eqb (getD ends j 0) b eb)))))
             (λ n. rw (getD-set-other stamps b x (s + 1) 0 n, any-step j (goes starts ends s x)) (M .stamped x lx ∙ miss x n));
         is = λ i li. either (eq-or-ne i j)
             (λ e. rw (e, getD-set-same again j (when (eqb (getD stamps b 0) (s + 1)) 1) 0 (omega (arith, M .long)), done-own starts s j (j + 1) es (omega arith), M .stamped b lb)
-              (rw (← es, ← eb)))
+            (rw (← es, ← eb)))
             (λ n. rw (getD-set-other again j i (when (eqb (getD stamps b 0) (s + 1)) 1) 0 n) (M .is i li ∙ ap (λ (t : Bool). when (t && repeats starts ends i) 1)
-              (done-same starts s i j (j + 1) (same-test _ _ (λ t. lt-ltb i (j + 1) (omega (arith, ltb-true i j t))) (λ t. lt-ltb i j (omega (arith, ltb-true i (j + 1) t)))))));
+            (done-same starts s i j (j + 1) (same-test _ _ (λ t. lt-ltb i (j + 1) (omega (arith, ltb-true i j t))) (λ t. lt-ltb i j (omega (arith, ltb-true i (j + 1) t)))))));
       }
     where
       miss : (x : ℕ) → (x ≡ b → ⊥) → anyTo j (goes starts ends s x) ≡ (anyTo j (goes starts ends s x) || goes starts ends s x j)

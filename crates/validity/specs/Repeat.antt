@@ -5,7 +5,7 @@ use mathlib.Core.Bool.{Bool, _&&_, _||_}
 use mathlib.Core.List.{List}
 use lib.Dec.{eqb, ltb}
 use lib.ListN.{length, getD}
-use Rattle.folds.specs.Fold.{pick, when, anyTo, firstTo}
+use Rattle.folds.specs.Fold.{pick, when, anyTo}
 use Rattle.validity.specs.Check.{repeats}
 
 -- how many edges the search tried: one more than the place at a find, else all m

@@ -1,7 +1,6 @@
 -- What a valid graph has, as propositions.
 use Prim.Native.Nat.{ℕ, _<_, _≤_}
 use mathlib.Core.Path.{_≡_}
-use mathlib.Core.List.{List}
 use lib.ListN.{getD}
 use Rattle.graph.specs.Walk.{Acyclic}
 use Rattle.graph.specs.Graph.{Graph, vertices, edges, identity, seen, Edge, Proper}

@@ -1,3 +1,4 @@
+-- A cluster that has a number keeps it; else it and its mate take the next one.
 use Rattle.contraction.proofs.Naming.{named-new}
 use borrow.Author.Needs.{needs}
 use native.Mathlib.Omega.{arith}

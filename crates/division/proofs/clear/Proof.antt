@@ -1,3 +1,4 @@
+-- Both arrays are written whole.
 use mathlib.Core.Path.{refl}
 use Rattle.folds.specs.Fold.{zeros}
 use Rattle.division.proofs.clear.Statement.{statement}

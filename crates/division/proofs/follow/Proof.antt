@@ -1,3 +1,4 @@
+-- The first i starts are written, and the rest are those that follow from y.
 use Prim.Native.Nat.{_+_, _-_, _*_, _≤_, _<_}
 use native.Mathlib.Nat.{sub-zero}
 use native.Mathlib.Omega.{arith}

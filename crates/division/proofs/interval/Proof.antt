@@ -1,3 +1,4 @@
+-- None of the first i starts is above p.
 use Prim.Native.Nat.{_-_, _≤_}
 use mathlib.Core.Path.{_≡_}
 use native.Mathlib.Omega.{arith}

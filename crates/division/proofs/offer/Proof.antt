@@ -1,3 +1,4 @@
+-- The offer is taken exactly if it cuts less than what the cell has.
 use Prim.Native.Nat.{_+_, _*_}
 use native.Mathlib.Omega.{arith}
 use Rattle.division.proofs.Tables.{offered-no, offered-yes}

@@ -1,3 +1,4 @@
+-- The cells of position y for the first j counts have met the offer of x.
 use Prim.Native.Nat.{_-_, _≤_}
 use mathlib.Core.Path.{_≡_}
 use native.Mathlib.Omega.{arith}

@@ -1,3 +1,4 @@
+-- Running cost and outgoing width are those of the interval from y to x; the cells of y have met every x passed.
 use Prim.Native.Nat.{_+_, _-_, _≤_, _<_}
 use mathlib.Core.Path.{_≡_}
 use native.Mathlib.Omega.{arith}

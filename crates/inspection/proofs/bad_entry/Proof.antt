@@ -1,3 +1,4 @@
+-- No vertex below v is refused: the search stands at v.
 use Rattle.inspection.specs.Table.{badEntry}
 use lib.ListN.{length}
 use Prim.Native.Nat.{_≤_, _-_}

@@ -1,8 +1,7 @@
+-- The lowest on a cycle refuses, or there is none.
 use Rattle.inspection.specs.Table.{cyclesFrom}
 use Rattle.validity.proofs.Checks.{at-hit, at-pass}
 use native.Mathlib.Omega.{arith}
-use mathlib.Core.Path.{refl}
-use borrow.Author.Needs.{needs}
 use Rattle.inspection.proofs.check_cycles.Statement.{statement}
 use Rattle.inspection.proofs.check_cycles.Tie as tie
 

@@ -1,9 +1,9 @@
+-- Checks 10 to 13: each refuses at its place, or passes on; sums stand for parts since costs are above 0.
 use Rattle.inspection.specs.Table.{tableOf}
 use Rattle.inspection.proofs.Tables.{entry-at, entries-left, empty-sums, over-sums, table-joins, table-inside}
 use Rattle.validity.proofs.Checks.{at-hit, at-pass}
 use native.Mathlib.Omega.{arith}
-use mathlib.Core.Path.{refl, _∙_}
-use Prim.Native.Nat.{_<_}
+use mathlib.Core.Path.{_∙_}
 use borrow.Author.Needs.{needs}
 use Rattle.inspection.proofs.check_table.Statement.{statement}
 use Rattle.inspection.proofs.check_table.Tie as tie

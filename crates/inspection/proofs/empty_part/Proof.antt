@@ -1,3 +1,4 @@
+-- No part below u is empty: the search stands at u.
 use lib.Dec.{eqb}
 use lib.ListN.{getD}
 use Prim.Native.Nat.{_≤_, _-_}

@@ -1,5 +1,5 @@
+-- Each branch is one test of the definition.
 use Rattle.folds.proofs.Cases.{cases}
-use borrow.Author.Needs.{needs}
 use Rattle.inspection.proofs.enough.Statement.{statement}
 use Rattle.inspection.proofs.enough.Tie as tie
 

@@ -1,6 +1,6 @@
+-- A refusal of checks 1 to 8 or of 10 to 13 leaves the order; where both passed, the order and the cut are written.
 use Rattle.inspection.specs.Inspect.{partsOf, answerOf}
 use Rattle.inspection.proofs.Inspects.{refused-first, refused-table, passed-both, sound, rooms, tabled, joins}
-use native.Mathlib.Omega.{arith}
 use mathlib.Core.Path.{ap, sym, _∙_}
 use borrow.Author.Needs.{needs}
 use Rattle.inspection.proofs.inspect.Statement.{statement}

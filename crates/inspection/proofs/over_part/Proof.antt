@@ -1,3 +1,4 @@
+-- No part below u is over the bound: the search stands at u.
 use lib.Dec.{ltb}
 use lib.ListN.{getD}
 use Prim.Native.Nat.{_≤_, _-_}

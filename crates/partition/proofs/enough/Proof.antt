@@ -1,8 +1,7 @@
+-- Nine rows fit, without forming 9 × n.
 use Rattle.partition.proofs.Work.{nine-rows}
 use Rattle.folds.proofs.Cases.{cases}
-use mathlib.Core.Path.{sym}
 use borrow.Author.Tests.{le-leb}
-use borrow.Author.Needs.{needs}
 use Rattle.partition.proofs.enough.Statement.{statement}
 use Rattle.partition.proofs.enough.Tie as tie
 

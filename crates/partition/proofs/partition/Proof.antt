@@ -1,3 +1,4 @@
+-- Each phase meets what the next asks for: a sound graph is built, its rows are a hierarchy, and the first cut's table is good.
 use Rattle.partition.proofs.Work.{sound-builds, choose-hierarchy, choose-lent, work-none, refine-room, refine-descends, work-found}
 use borrow.Author.Needs.{needs}
 use Rattle.partition.proofs.partition.Statement.{statement}

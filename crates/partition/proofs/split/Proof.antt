@@ -1,3 +1,4 @@
+-- A refusal of the checks leaves both tables; what passed them is answered as the phases left it.
 use Rattle.partition.proofs.Work.{refused-first, sound, rooms, worked}
 use Rattle.partition.specs.Split.{answerBy}
 use mathlib.Core.Path.{ap, sym, _∙_}

@@ -1,3 +1,4 @@
+-- No vertex below v is refused: the search stands at v.
 use Rattle.folds.specs.Fold.{firstTo}
 use Rattle.folds.proofs.Searches.{firstTo-zero, firstTo-more, firstTo-at, firstTo-end}
 use lib.ListN.{length}

@@ -1,3 +1,4 @@
+-- No edge below j is refused: the search stands at j.
 use Rattle.folds.specs.Fold.{firstTo}
 use Rattle.folds.proofs.Searches.{firstTo-zero, firstTo-more, firstTo-at, firstTo-end}
 use lib.ListN.{length}

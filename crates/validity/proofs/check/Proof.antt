@@ -1,7 +1,7 @@
+-- Each check refuses, or hands on to the next; checks 1 to 3 passed leave the sizes that the rest asks for.
 use Rattle.validity.specs.Check.{checked}
 use Rattle.validity.proofs.Checks.{sizes-fit}
 use Rattle.folds.proofs.Cases.{cases, told}
-use mathlib.Core.Path.{refl}
 use borrow.Author.Needs.{needs}
 use Rattle.validity.proofs.check.Statement.{statement}
 use Rattle.validity.proofs.check.Tie as tie

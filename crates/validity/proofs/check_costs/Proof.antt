@@ -1,7 +1,6 @@
+-- A search that ended below its count refuses; one that reached it leaves every entry fine.
 use Rattle.validity.specs.Check.{costsFrom, endsFrom}
 use Rattle.validity.proofs.Checks.{at-hit, at-pass, ends-fit-left}
-use native.Mathlib.Omega.{arith}
-use mathlib.Core.Path.{refl}
 use borrow.Author.Needs.{needs}
 use Rattle.validity.proofs.check_costs.Statement.{statement}
 use Rattle.validity.proofs.check_costs.Tie as tie

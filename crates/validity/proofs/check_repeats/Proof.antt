@@ -1,4 +1,4 @@
-use Rattle.validity.specs.Check.{repeatsFrom}
+-- The filled front of the array is the row of the vertices.
 use Rattle.validity.proofs.Checks.{identity-few, identity-part, identity-room, fit-row, length-row}
 use mathlib.Core.Path.{refl, _∙_}
 use borrow.Author.Needs.{needs}

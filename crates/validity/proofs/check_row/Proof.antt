@@ -1,3 +1,4 @@
+-- Check 7 and then check 8: each refuses at its place, or passes on.
 use Rattle.validity.specs.Check.{repeatsFrom, cyclesFrom}
 use Rattle.validity.proofs.Checks.{at-hit, at-pass, cycle-row, fit-joins, fit-inside}
 use mathlib.Core.Path.{refl}

@@ -1,6 +1,7 @@
+-- The first v entries are their own numbers, the rest untouched.
 use Rattle.graph.specs.Graph.{identity}
 use Rattle.folds.specs.Fold.{Filled}
-use Rattle.folds.proofs.Slices.{filled-none, filled-turn, filled-end, filled-at}
+use Rattle.folds.proofs.Slices.{filled-none, filled-turn, filled-at}
 use native.Mathlib.Omega.{arith}
 use mathlib.Core.Path.{refl}
 use Prim.Native.Nat.{_≤_, _-_}

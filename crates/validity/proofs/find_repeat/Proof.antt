@@ -1,3 +1,4 @@
+-- Every repeat is marked, and none of the first j edges is one.
 use Rattle.validity.specs.Check.{repeats}
 use Rattle.validity.specs.Repeat.{tried}
 use Rattle.folds.specs.Fold.{when, firstTo, zeros}

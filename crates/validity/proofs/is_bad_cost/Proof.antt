@@ -1,3 +1,4 @@
+-- Each branch is one test of the definition.
 use Rattle.folds.proofs.Cases.{cases}
 use Rattle.validity.specs.Check.{badCost}
 use native.Mathlib.Omega.{arith}

@@ -1,6 +1,6 @@
+-- Each branch is one test of the definition, over the values read.
 use Rattle.folds.proofs.Cases.{cases}
 use Rattle.validity.specs.Check.{badEnds}
-use native.Mathlib.Omega.{arith}
 use borrow.Author.Needs.{needs}
 use Rattle.validity.proofs.is_bad_end.Statement.{statement}
 use Rattle.validity.proofs.is_bad_end.Tie as tie

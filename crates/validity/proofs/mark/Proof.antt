@@ -1,5 +1,5 @@
+-- The two branches are the two values of the test.
 use Rattle.folds.proofs.Cases.{cases}
-use borrow.Author.Needs.{needs}
 use Rattle.validity.proofs.mark.Statement.{statement}
 use Rattle.validity.proofs.mark.Tie as tie
 

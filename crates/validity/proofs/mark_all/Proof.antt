@@ -1,3 +1,4 @@
+-- The edges of all starts below s are marked.
 use Rattle.validity.specs.Repeat.{Marked}
 use Rattle.validity.proofs.Checks.{fit-joins}
 use Rattle.validity.proofs.Repeats.{marked-none, marked-next, marked-end}
@@ -6,7 +7,7 @@ use Rattle.graph.specs.Links.{Linked}
 use Rattle.folds.specs.Fold.{zeros}
 use native.Mathlib.Omega.{arith}
 use lib.ListN.{length}
-use mathlib.Core.Path.{_≡_, refl}
+use mathlib.Core.Path.{refl}
 use Prim.Native.Nat.{_≤_, _-_}
 use borrow.Author.Needs.{needs}
 use Rattle.validity.proofs.mark_all.Statement.{statement}

@@ -1,3 +1,4 @@
+-- Of the edges of s those before j are marked, and their ends stamped; j walks along the links of s.
 use Rattle.validity.specs.Repeat.{Marked}
 use Rattle.validity.proofs.Checks.{end-low, end-read}
 use Rattle.validity.proofs.Repeats.{marked-on, marked-turn}
@@ -6,7 +7,7 @@ use Rattle.graph.proofs.Links.{On, walk-on, walk-next, walk-less, on-end}
 use native.Mathlib.Omega.{arith}
 use lib.ListN.{length}
 use mathlib.Core.Path.{_≡_, refl}
-use Prim.Native.Nat.{_≤_, _-_, _+_}
+use Prim.Native.Nat.{_-_, _+_}
 use borrow.Author.Needs.{needs}
 use Rattle.validity.proofs.mark_repeats.Statement.{statement}
 use Rattle.validity.proofs.mark_repeats.Tie as tie
