@@ -18,8 +18,8 @@ use Rattle.graph.specs.Rows.{clusters, Hierarchy}
 use Rattle.graph.proofs.Walks.{rank-law}
 use Rattle.graph.proofs.Edges.{edge-arc, edge-other, row-inside}
 use Rattle.graph.proofs.Rows.{few-clusters}
-use Rattle.topology.specs.Order.{orderOf, placeIn}
-use Rattle.topology.proofs.Orders.{order-all, order-rises}
+use Rattle.topology.specs.Order.{orderOf}
+use Rattle.topology.proofs.Orders.{order-all, place-at, order-rises}
 use Rattle.topology.proofs.Sorted.{order-sorted}
 use Rattle.validity.specs.Cause.{Answer, refusal, answered}
 use Rattle.validity.specs.Check.{Valid}
@@ -45,7 +45,8 @@ use Rattle.moves.specs.Own.{ownMoves, Took}
 use Rattle.moves.specs.Move.{place, partSize}
 use Rattle.moves.proofs.Claims.{moves-law, own-moves, few-moves, refined-good}
 use Rattle.partition.specs.Phases.{Result, nothing, parted, firstOf, refinedFrom, resultOf}
-use Rattle.partition.specs.Split.{roomFor, verdictOf, splitOf, tableAfter, ladderLeft, Answers, Uncuttable}
+use Rattle.partition.specs.Split.{roomFor, verdictOf, splitOf, tableAfter, ladderLeft}
+use Rattle.partition.specs.Claim.{Answers, Uncuttable, Ordered}
 use Rattle.partition.proofs.Rows.{good-start}
 
 module _ (G : Graph) (k bound : ℕ) (valid : Valid G k bound) where
@@ -142,16 +143,14 @@ module _ (G : Graph) (k bound : ℕ) (valid : Valid G k bound) where
       rises a b n l ex ey = either (eq-or-ne a b) (λ q. absurd (n q)) (λ q. omega arith)
 
   -- RUNNING ORDER: on every kept rung the play order takes all groups, and every wire between two groups goes from an earlier place to a later one
-  pub split-order : (r : ℕ) → r ≤ keptOf G k bound
-      → (length (orderOf (seen G (rowOf G k bound r)) (clusters (rowOf G k bound r))) ≡ clusters (rowOf G k bound r))
-      × ((a b : ℕ) → Edge (seen G (rowOf G k bound r)) a b
-      → placeIn (orderOf (seen G (rowOf G k bound r)) (clusters (rowOf G k bound r))) a < placeIn (orderOf (seen G (rowOf G k bound r)) (clusters (rowOf G k bound r))) b)
+  pub split-order : (r : ℕ) → r ≤ keptOf G k bound → Ordered (seen G (rowOf G k bound r)) (clusters (rowOf G k bound r))
   split-order r l =
       let A = seen G (rowOf G k bound r) in
       let g = clusters (rowOf G k bound r) in
       let inside = row-inside (sound .proper .formed) (kept .row r l) in
       let small : g ≤ 512 = omega (arith, few-clusters kept r l, sound .proper .few) in
-      let all = order-all A g inside small (kept .acyclic r l) in (all, order-rises A g inside small all)
+      let all = order-all A g inside small (kept .acyclic r l) in
+      record { all = all; each = λ c lc. place-at A g inside small all c lc .1; rises = order-rises A g inside small all }
 
   -- FROM THE ANSWER TO THE CLAIMS: with room for its tables, the split answers what the phases gave, or 9
   module _ (table ladder : List ℕ) (lt : vertices G ≤ length table) (ll : 9 * vertices G ≤ length ladder) where

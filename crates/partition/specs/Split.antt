@@ -12,7 +12,6 @@ use Rattle.validity.specs.Check.{checked}
 use Rattle.validity.specs.declared.Cause.the-variants.{Uncut}
 use Rattle.validity.specs.declared.Verdict.{Verdict}
 use Rattle.hierarchy.specs.Climb.{keptOf, ladderAfter}
-use Rattle.moves.specs.Pass.{Tally}
 use Rattle.partition.specs.Phases.{Result, nothing, parted, resultOf}
 use Rattle.partition.specs.declared.Partitioned.{Partitioned}
 use Rattle.partition.specs.declared.Partitioned.the-variants.{Parted, Failed}
@@ -50,20 +49,6 @@ tableAfter G k bound table ladder = ifPassed (verdictOf G k bound table ladder) 
 -- the ladder afterwards: it holds its rows, also where no rung can be cut
 unfoldable pub ladderLeft : Graph → ℕ → ℕ → List ℕ → List ℕ → List ℕ
 ladderLeft G k bound table ladder = ifPassed (verdictOf G k bound table ladder) (ladderAfter G k bound ladder) (λ cause place. ladder)
-
--- what an answer of number 0 stands for: the phases' result, document 01's values, and both tables afterwards
-pub record Answers (G : Graph) (k bound : ℕ) (table ladder : List ℕ) (rung : ℕ) (first : List ℕ) (tally : Tally) : Type 0 where
-  pub result : resultOf G k bound ≡ parted rung first tally
-  pub answer : splitOf G k bound table ladder ≡ answered (cutOf G (tally .parts) ∷ keptOf G k bound ∷ rung ∷ tally .moves ∷ [])
-  pub table-is : tableAfter G k bound table ladder ≡ over (tally .parts) table
-  pub ladder-is : ladderLeft G k bound table ladder ≡ ladderAfter G k bound ladder
-
--- and the refusal 9: the stage table is left, and the ladder holds its rows
-pub record Uncuttable (G : Graph) (k bound : ℕ) (table ladder : List ℕ) : Type 0 where
-  pub result : resultOf G k bound ≡ nothing
-  pub answer : splitOf G k bound table ladder ≡ refusal Uncut 0
-  pub table-is : tableAfter G k bound table ladder ≡ table
-  pub ladder-is : ladderLeft G k bound table ladder ≡ ladderAfter G k bound ladder
 
 -- the work below the checks, as code answers it
 abbrev pub innerOf : Graph → ℕ → Result → Inner
