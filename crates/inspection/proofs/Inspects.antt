@@ -14,14 +14,13 @@ use Rattle.folds.proofs.Cases.{both}
 use Rattle.graph.specs.Graph.{Graph, vertices, seen, cutOf, Proper}
 use Rattle.graph.specs.Links.{Joins}
 use Rattle.topology.specs.Order.{orderOf}
-use Rattle.validity.specs.Cause.{numberOf, refusal, answered, ifPassed}
+use Rattle.validity.specs.Cause.{refusal, answered, told}
 use Rattle.validity.specs.Check.{checked, Valid}
 use Rattle.validity.specs.Sound.{Sound}
 use Rattle.validity.specs.declared.Cause.{Cause}
-use Rattle.validity.specs.declared.Cause.the-variants.{Vertices, Parts, Edges, Room, Cost, Ends, Repeat, Cycle, Uncut, Entry, Empty, Over, PartCycle, Length, Line, Lines}
 use Rattle.validity.specs.declared.Verdict.{Verdict}
 use Rattle.validity.specs.declared.Verdict.the-variants.{Passed, Refused}
-use Rattle.validity.proofs.Passed.{passed-valid, valid-sound}
+use Rattle.validity.proofs.Passed.{number-passed, passed-valid, valid-sound}
 use Rattle.inspection.specs.Table.{tableOf, Fine, Tabled}
 use Rattle.inspection.specs.Inspect.{partsOf, verdictOf, inspectOf, orderAfter}
 use Rattle.inspection.proofs.Tables.{passed-fine, fine-passed, table-joins}
@@ -74,29 +73,6 @@ module _ (G : Graph) (k bound : ℕ) (table order : List ℕ) (room : Bool) (v :
     pub joins : tableOf (G .costs) (G .starts) (G .ends) k bound (partsOf G table) ≡ Passed → Joins (partsOf G table) (G .starts) (G .ends)
     joins e = table-joins tabled (passed-fine G k bound (partsOf G table) (sound .proper) e .named)
 
--- a refusal has a number above 0
-numbered : (cause : Cause) → numberOf cause ≡ 0 → ⊥
-numbered Vertices e = omega arith
-numbered Parts e = omega arith
-numbered Edges e = omega arith
-numbered Room e = omega arith
-numbered Cost e = omega arith
-numbered Ends e = omega arith
-numbered Repeat e = omega arith
-numbered Cycle e = omega arith
-numbered Uncut e = omega arith
-numbered Entry e = omega arith
-numbered Empty e = omega arith
-numbered Over e = omega arith
-numbered PartCycle e = omega arith
-numbered Length e = omega arith
-numbered Line e = omega arith
-numbered Lines e = omega arith
-
-number-passed : (v : Verdict) (values : List ℕ) → ifPassed v (answered values) refusal .number ≡ 0 → v ≡ Passed
-number-passed Passed values e = refl
-number-passed (Refused cause place) values e = absurd (numbered cause e)
-
 -- DEMAND 2: for a valid graph, inspection passes a table (with an entry for each vertex, and room for the start order) exactly if it is fine
 pub inspection-exactly : (G : Graph) (k bound : ℕ) (table order : List ℕ) → Valid G k bound → vertices G ≤ length table → k ≤ length order
     → (inspectOf G k bound table order .number ≡ 0) ↔ Fine G k bound (partsOf G table)
@@ -109,8 +85,8 @@ inspection-exactly G k bound table order valid lt lo = (there, back)
     proper : Proper G
     proper = valid-sound G k bound valid .proper
 
-    there : ifPassed (verdictOf G k bound table order) (answered (cutOf G (partsOf G table) ∷ [])) refusal .number ≡ 0 → Fine G k bound (partsOf G table)
+    there : told (verdictOf G k bound table order) (cutOf G (partsOf G table) ∷ []) .number ≡ 0 → Fine G k bound (partsOf G table)
     there e = passed-fine G k bound (partsOf G table) proper (rw checks at (number-passed (verdictOf G k bound table order) _ e))
 
-    back : Fine G k bound (partsOf G table) → ifPassed (verdictOf G k bound table order) (answered (cutOf G (partsOf G table) ∷ [])) refusal .number ≡ 0
+    back : Fine G k bound (partsOf G table) → told (verdictOf G k bound table order) (cutOf G (partsOf G table) ∷ []) .number ≡ 0
     back F = rw (checks, fine-passed G k bound (partsOf G table) proper F)

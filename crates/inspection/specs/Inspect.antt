@@ -7,7 +7,7 @@ use lib.ListN.{length, take}
 use Rattle.folds.specs.Fold.{over}
 use Rattle.graph.specs.Graph.{Graph, vertices, seen, cutOf}
 use Rattle.topology.specs.Order.{orderOf}
-use Rattle.validity.specs.Cause.{Answer, refusal, answered, ifPassed}
+use Rattle.validity.specs.Cause.{Answer, refusal, answered, ifPassed, told}
 use Rattle.validity.specs.Check.{checked}
 use Rattle.validity.specs.declared.Verdict.{Verdict}
 use Rattle.validity.specs.declared.Verdict.the-variants.{Refused}
@@ -31,7 +31,7 @@ verdictOf G k bound table order =
 
 -- the answer: the cut of the table, or the refusal
 unfoldable pub inspectOf : Graph → ℕ → ℕ → List ℕ → List ℕ → Answer
-inspectOf G k bound table order = ifPassed (verdictOf G k bound table order) (answered (cutOf G (partsOf G table) ∷ [])) refusal
+inspectOf G k bound table order = told (verdictOf G k bound table order) (cutOf G (partsOf G table) ∷ [])
 
 -- the start order lists the stages by the play order rule on the stages; a refusal leaves what is lent as it was
 unfoldable pub orderAfter : Graph → ℕ → ℕ → List ℕ → List ℕ → List ℕ

@@ -8,9 +8,9 @@ use native.Mathlib.Omega.{arith}
 use lib.Dec.{leb}
 use lib.IntN.{ℤ, pos, _+ℤ_}
 use lib.ListN.{length, getD, take}
-use borrow.Author.Tests.{le-leb}
+use borrow.Author.Tests.{le-leb, leb-true}
 use Rattle.folds.specs.Fold.{over}
-use Rattle.folds.proofs.Cases.{either, eq-or-ne}
+use Rattle.folds.proofs.Cases.{either, eq-or-ne, both}
 use Rattle.folds.proofs.Slices.{take-over, length-over}
 use Rattle.graph.specs.Walk.{Acyclic}
 use Rattle.graph.specs.Graph.{Graph, vertices, identity, seen, Edge, cutOf}
@@ -26,7 +26,7 @@ use Rattle.validity.specs.Check.{Valid}
 use Rattle.validity.specs.Sound.{Sound}
 use Rattle.validity.specs.declared.Cause.the-variants.{Uncut}
 use Rattle.validity.specs.declared.Verdict.the-variants.{Passed}
-use Rattle.validity.proofs.Passed.{valid-sound}
+use Rattle.validity.proofs.Passed.{valid-sound, number-passed, passed-valid}
 use Rattle.inspection.specs.Table.{Fine}
 use Rattle.inspection.specs.Inspect.{inspectOf, orderAfter}
 use Rattle.inspection.specs.Inspect as inspect
@@ -200,3 +200,16 @@ module _ (G : Graph) (k bound : ℕ) (valid : Valid G k bound) where
 
         sorted : orderOf (seen G (tally .parts)) k ≡ identity k
         sorted = order-sorted (seen G (tally .parts)) k (omega (arith, sound .few)) (λ j l. I .forward j l)
+
+-- WHAT A CALLER HAS: an answer of number 0 says that the graph was valid and there was room, and so all of the above
+pub split-answered : (G : Graph) (k bound : ℕ) (table ladder : List ℕ) → splitOf G k bound table ladder .number ≡ 0
+    → Valid G k bound × ((rung : ℕ) × (first : List ℕ) × (tally : Tally) × Answers G k bound table ladder rung first tally)
+unfolding splitOf verdictOf roomFor
+split-answered G k bound table ladder e =
+    let passed = number-passed (verdictOf G k bound table ladder) _ e in
+    let (valid, room) = passed-valid 512 G k bound _ (omega arith) passed in
+    let (a, b) = both (leb (vertices G) (length table)) _ room in (
+      valid,
+      either (split-answers G k bound valid table ladder (leb-true _ _ a) (leb-true _ _ b))
+          (λ u. let z : _≡_ {A = ℕ} 9 0 = sym (ap (λ (x : Answer). x .number) (u .answer)) ∙ e in absurd (omega arith)) (λ x. x),
+    )

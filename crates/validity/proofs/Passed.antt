@@ -17,9 +17,11 @@ use Rattle.topology.specs.Reach.{lowestOnCycle}
 use Rattle.topology.proofs.Reaches.{none-acyclic, lowest-none}
 use Rattle.validity.specs.Sound.{Sound}
 use Rattle.validity.specs.Check.{refuseIf, refuseAt, badVertices, badParts, badEdges, badCost, badEnds, repeats, cyclesFrom, repeatsFrom, endsFrom, costsFrom, checked, Valid}
+use Rattle.validity.specs.Cause.{numberOf, Answer, refusal, ifPassed}
 use Rattle.validity.specs.declared.Cause.{Cause}
+use Rattle.validity.specs.declared.Cause.the-variants.{Vertices, Parts, Edges, Room, Cost, Ends, Repeat, Cycle, Uncut, Entry, Empty, Over, PartCycle, Length, Line, Lines}
 use Rattle.validity.specs.declared.Verdict.{Verdict}
-use Rattle.validity.specs.declared.Verdict.the-variants.{Passed}
+use Rattle.validity.specs.declared.Verdict.the-variants.{Passed, Refused}
 use Rattle.validity.proofs.Checks.{neither}
 
 positive : (x : ℕ) → (x ≡ 0 → ⊥) → 0 < x
@@ -176,3 +178,27 @@ passed-valid most G k bound room l e =
     let (d, r4) = passed-if (not room) _ _ r3 in
     let (z, f) = neither (eqb (vertices G) 0) _ a in
     (rw (z, le-ltb 512 (vertices G) (omega (arith, ltb-false most (vertices G) f)), b, c) r4, not-no room d)
+
+-- a refusal has a number above 0
+pub numbered : (cause : Cause) → numberOf cause ≡ 0 → ⊥
+numbered Vertices e = omega arith
+numbered Parts e = omega arith
+numbered Edges e = omega arith
+numbered Room e = omega arith
+numbered Cost e = omega arith
+numbered Ends e = omega arith
+numbered Repeat e = omega arith
+numbered Cycle e = omega arith
+numbered Uncut e = omega arith
+numbered Entry e = omega arith
+numbered Empty e = omega arith
+numbered Over e = omega arith
+numbered PartCycle e = omega arith
+numbered Length e = omega arith
+numbered Line e = omega arith
+numbered Lines e = omega arith
+
+-- an answer of number 0 comes of a verdict that passed
+pub number-passed : (v : Verdict) (answer : Answer) → ifPassed v answer refusal .number ≡ 0 → v ≡ Passed
+number-passed Passed answer e = refl
+number-passed (Refused cause place) answer e = absurd (numbered cause e)

@@ -39,3 +39,6 @@ answered values = record { number = 0; values = values }
 abbrev pub ifPassed : {A : Type 0} → Verdict → A → (Cause → ℕ → A) → A
 ifPassed Passed next left = next
 ifPassed (Refused cause place) next left = left cause place
+
+abbrev pub told : Verdict → List ℕ → Answer
+told v values = ifPassed v (answered values) refusal
