@@ -20,10 +20,10 @@ use Rattle.line_forms.proofs.Form.{fits-cons, as-own, as-sound}
 use Rattle.line_forms.proofs.Lines.{flat-lines, leading-none, leading-nil, leading-few, length-column}
 use Rattle.line_forms.proofs.Rows.{AllFit, printedRows, length-rows, flat-rows, lines-line, lines-all, lines-only, leading-own, leading-fit, leading-sound, Leads, leads, apart, mosts, line-long, lines-long, fits-most, column-most}
 use Rattle.kit_lines.specs.Forms.{kitForm, blockForm, wireForm}
-use Rattle.line_forms.specs.Answer.{Answer, accepted, refused}
 use Rattle.line_forms.specs.Stand.{Low}
-use Rattle.line_forms.proofs.Answer.{refused-accepted}
-use Rattle.kit_lines.specs.Kit.{Kit, kitFrom, blockRows, wireRows, kitWith, kitAfter, kitLines, kitOf}
+use Rattle.validity.specs.declared.Cause.the-variants.{Length, Line, Lines}
+use Rattle.kit_lines.proofs.Says.{refused-accepted}
+use Rattle.kit_lines.specs.Kit.{Kit, Says, accepted, refused, kitFrom, blockRows, wireRows, kitWith, kitAfter, kitLines, kitOf}
 use Rattle.kit_lines.specs.Grammar.{single, triples, kitText, Within}
 use Rattle.kit_lines.proofs.Lines.{kit-clear, block-clear, wire-clear}
 
@@ -219,13 +219,13 @@ after-passed head ls k e = first (chose _ _ _ _ e)
     ws : List (List ℕ)
     ws = wireRows (drop (length bs) ls)
 
-    second : length ls ≤ length bs + length ws → ((eqb (length bs) (getD head 0 0) ≡ true) × (accepted (kitFrom head bs ws) ≡ accepted k)) ⊎ ((eqb (length bs) (getD head 0 0) ≡ false) × (refused 16 0 ≡ accepted k)) → Passed head ls k
+    second : length ls ≤ length bs + length ws → ((eqb (length bs) (getD head 0 0) ≡ true) × (accepted (kitFrom head bs ws) ≡ accepted k)) ⊎ ((eqb (length bs) (getD head 0 0) ≡ false) × (refused Lines 0 ≡ accepted k)) → Passed head ls k
     second h (inl x) = let q : kitFrom head bs ws ≡ k = cc in record { none-left = h; counted = eqb-true _ _ (x .0); kit = q }
-    second h (inr x) = absurd (refused-accepted 16 0 k (x .1))
+    second h (inr x) = absurd (refused-accepted Lines 0 k (x .1))
 
-    first : ((ltb (length bs + length ws) (length ls) ≡ true) × (refused 15 (length bs + length ws + 2) ≡ accepted k))
-        ⊎ ((ltb (length bs + length ws) (length ls) ≡ false) × (pick (eqb (length bs) (getD head 0 0)) (accepted (kitFrom head bs ws)) (refused 16 0) ≡ accepted k)) → Passed head ls k
-    first (inl x) = absurd (refused-accepted 15 _ k (x .1))
+    first : ((ltb (length bs + length ws) (length ls) ≡ true) × (refused Line (length bs + length ws + 2) ≡ accepted k))
+        ⊎ ((ltb (length bs + length ws) (length ls) ≡ false) × (pick (eqb (length bs) (getD head 0 0)) (accepted (kitFrom head bs ws)) (refused Lines 0) ≡ accepted k)) → Passed head ls k
+    first (inl x) = absurd (refused-accepted Line _ k (x .1))
     first (inr x) = second (ltb-false _ _ (x .0)) (chose _ _ _ _ (x .1))
 
 module _ (head : List ℕ) (ls : List (List ℕ)) (fit : fits (kitForm .fields) head ≡ true)
@@ -289,7 +289,7 @@ module _ (head : List ℕ) (ls : List (List ℕ)) (fit : fits (kitForm .fields) 
 
 pub accepted-sound : (t : List ℕ) (k : Kit) → kitOf t ≡ accepted k → (t ≡ kitText k) × Within k
 unfolding kitOf kitLines
-accepted-sound t k e = ⊎-elim (λ x. absurd (refused-accepted 14 0 k (x .1))) (λ x. in-lines (linesOf t) refl (x .1)) (chose (ltb 65536 (length t)) (refused 14 0) (kitLines (linesOf t)) (accepted k) e)
+accepted-sound t k e = ⊎-elim (λ x. absurd (refused-accepted Length 0 k (x .1))) (λ x. in-lines (linesOf t) refl (x .1)) (chose (ltb 65536 (length t)) (refused Length 0) (kitLines (linesOf t)) (accepted k) e)
   where
     body : (l : List ℕ) (ls : List (List ℕ)) → linesOf t ≡ l ∷ ls → (head : List ℕ) → asForm kitForm l ≡ some head → kitAfter head ls ≡ accepted k → (t ≡ kitText k) × Within k
     body l ls h head a q =
@@ -299,9 +299,9 @@ accepted-sound t k e = ⊎-elim (λ x. absurd (refused-accepted 14 0 k (x .1))) 
         rw (← p .kit) (x ∙ passed-text head ls (s .1) (p .none-left) (p .counted), passed-within head ls (s .1) (p .none-left) (p .counted))
 
     in-lines : (ls : List (List ℕ)) → linesOf t ≡ ls → kitLines ls ≡ accepted k → (t ≡ kitText k) × Within k
-    in-lines [] h q = absurd (refused-accepted 15 1 k q)
+    in-lines [] h q = absurd (refused-accepted Line 1 k q)
     in-lines (l ∷ ls) h q = at (asForm kitForm l) refl q
       where
-        at : (o : Option (List ℕ)) → asForm kitForm l ≡ o → _≡_ {A = Answer Kit} (elim o [ some head ↦ kitAfter head ls | none ↦ refused 15 1 ]) (accepted k) → (t ≡ kitText k) × Within k
+        at : (o : Option (List ℕ)) → asForm kitForm l ≡ o → _≡_ {A = Says} (elim o [ some head ↦ kitAfter head ls | none ↦ refused Line 1 ]) (accepted k) → (t ≡ kitText k) × Within k
         at (some head) a r = body l ls h head a r
-        at none a r = absurd (refused-accepted 15 1 k r)
+        at none a r = absurd (refused-accepted Line 1 k r)

@@ -3,10 +3,10 @@ use Prim.Native.String.{String, _++_}
 use mathlib.Core.Path.{_≡_, refl}
 use mathlib.Core.List.{[], _∷_}
 use Rattle.decimal.specs.Decimal.{bytes, digits, decimal, digit, numbers, numbersIn}
-use Rattle.line_forms.specs.Answer.{accepted, refused}
+use Rattle.validity.specs.declared.Cause.the-variants.{Line}
 use Rattle.line_forms.specs.Form.{printedFields, printed, fits, same, asForm}
 use Rattle.line_forms.specs.Lines.{linesOf, leading, column}
-use Rattle.kit_lines.specs.Kit.{blockRows, wireRows, kitWith, kitAfter, kitLines, kitOf}
+use Rattle.kit_lines.specs.Kit.{accepted, refused, blockRows, wireRows, kitWith, kitAfter, kitLines, kitOf}
 
 abbrev blocks : String
 blocks = "(block (cost 1))\n(block (cost 1))\n(block (cost 1))\n(block (cost 1))\n(block (cost 1))\n(block (cost 1))\n"
@@ -19,6 +19,6 @@ case-one : kitOf (bytes ("(kit (blocks 6) (stages 2) (limit 4))\n" ++ blocks ++ 
 unfolding kitOf kitLines kitAfter kitWith blockRows wireRows leading column linesOf asForm same fits printed printedFields numbersIn numbers digit decimal digits
 case-one = refl
 
-empty-text : kitOf [] ≡ refused 15 1
+empty-text : kitOf [] ≡ refused Line 1
 unfolding kitOf kitLines linesOf
 empty-text = refl

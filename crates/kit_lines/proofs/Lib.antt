@@ -1,3 +1,4 @@
+pub mod Says
 pub mod Lines
 pub mod Accepted
 pub mod Checks

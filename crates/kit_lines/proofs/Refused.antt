@@ -19,19 +19,20 @@ use Rattle.line_forms.specs.Lines.{ofForm}
 use Rattle.line_forms.proofs.Lines.{leading-few}
 use Rattle.line_forms.proofs.Rows.{apart, leading-each, leading-last, leading-short}
 use Rattle.kit_lines.specs.Forms.{kitForm, blockForm, wireForm}
-use Rattle.line_forms.specs.Answer.{accepted, refused}
 use Rattle.line_forms.specs.Stand.{isOf, lineAt, FirstBad, AllStand}
-use Rattle.line_forms.proofs.Answer.{refused-accepted, same-answer}
 use Rattle.line_forms.proofs.Stand.{is-some, is-none, one-bad, none-bad}
-use Rattle.kit_lines.specs.Kit.{Kit, kitFrom, blockRows, wireRows, kitWith, kitAfter, kitLines}
+use Rattle.kit_lines.specs.Kit.{Kit, accepted, refused, kitFrom, blockRows, wireRows, kitWith, kitAfter, kitLines}
 use Rattle.kit_lines.specs.Grammar.{countOf, stands, Miscounted}
+use Rattle.validity.specs.declared.Cause.{Cause}
+use Rattle.validity.specs.declared.Cause.the-variants.{Line, Lines}
+use Rattle.kit_lines.proofs.Says.{refused-accepted, same-refusal}
 use Rattle.kit_lines.proofs.Lines.{kit-clear, block-clear, wire-clear}
 use Rattle.kit_lines.proofs.Accepted.{kit-leads, block-leads, wire-leads, kit-some}
 
 -- what the lines of a text come to: a line that breaks it, or lines that all stand
 data Comes (ls : List (List ℕ)) : Type 0 where
-  breaks : (p : ℕ) → FirstBad (stands ls) (length ls) p → kitLines ls ≡ refused 15 (p + 1) → Comes ls
-  stand : (head : List ℕ) → AllStand (stands ls) (length ls) → asForm kitForm (lineAt ls 0) ≡ some head → (k : Kit) → kitLines ls ≡ pick (eqb (countOf blockForm ls (length ls)) (getD head 0 0)) (accepted k) (refused 16 0) → Comes ls
+  breaks : (p : ℕ) → FirstBad (stands ls) (length ls) p → kitLines ls ≡ refused Line (p + 1) → Comes ls
+  stand : (head : List ℕ) → AllStand (stands ls) (length ls) → asForm kitForm (lineAt ls 0) ≡ some head → (k : Kit) → kitLines ls ≡ pick (eqb (countOf blockForm ls (length ls)) (getD head 0 0)) (accepted k) (refused Lines 0) → Comes ls
 
 -- the kit line, then ls: which of its lines are of which form
 module _ (l head : List ℕ) (ls : List (List ℕ)) (a : asForm kitForm l ≡ some head) where
@@ -195,29 +196,32 @@ comes (l ∷ ls) = at (asForm kitForm l) refl
         (λ h. comes-over l head ls e (ltb-true _ _ h)) (λ h. comes-under l head ls e (ltb-false _ _ h))
 
 -- ---------------------------------------------------------------- 15 and 16, of the lines
-sixteen-or : (t : Bool) (k : Kit) (n p : ℕ) → pick t (accepted k) (refused 16 0) ≡ refused n p → (t ≡ false) × (n ≡ 16) × (p ≡ 0)
-sixteen-or true k n p e = absurd (refused-accepted n p k (sym e))
-sixteen-or false k n p e = let x = same-answer 16 n 0 p e in (refl, sym (x .0), sym (x .1))
+other-cause : Line ≡ Lines → ⊥
+other-cause e = let z : _≡_ {A = ℕ} 0 1 = cc in omega arith
 
-pub lines-fifteen : (ls : List (List ℕ)) (p : ℕ) → (kitLines ls ≡ refused 15 p) ↔ ((q : ℕ) × (p ≡ q + 1) × FirstBad (stands ls) (length ls) q)
+sixteen-or : (t : Bool) (k : Kit) (c : Cause) (p : ℕ) → pick t (accepted k) (refused Lines 0) ≡ refused c p → (t ≡ false) × (c ≡ Lines) × (p ≡ 0)
+sixteen-or true k c p e = absurd (refused-accepted c p k (sym e))
+sixteen-or false k c p e = let x = same-refusal Lines c 0 p e in (refl, sym (x .0), sym (x .1))
+
+pub lines-fifteen : (ls : List (List ℕ)) (p : ℕ) → (kitLines ls ≡ refused Line p) ↔ ((q : ℕ) × (p ≡ q + 1) × FirstBad (stands ls) (length ls) q)
 lines-fifteen ls p = (there (comes ls), back (comes ls))
   where
-    there : Comes ls → kitLines ls ≡ refused 15 p → (q : ℕ) × (p ≡ q + 1) × FirstBad (stands ls) (length ls) q
-    there (breaks q b e) h = (q, sym (same-answer 15 15 (q + 1) p (sym e ∙ h) .1), b)
-    there (stand head a f k e) h = absurd (omega (arith, sixteen-or (eqb (countOf blockForm ls (length ls)) (getD head 0 0)) k 15 p (sym e ∙ h) .1))
+    there : Comes ls → kitLines ls ≡ refused Line p → (q : ℕ) × (p ≡ q + 1) × FirstBad (stands ls) (length ls) q
+    there (breaks q b e) h = (q, sym (same-refusal Line Line (q + 1) p (sym e ∙ h) .1), b)
+    there (stand head a f k e) h = absurd (other-cause (sixteen-or (eqb (countOf blockForm ls (length ls)) (getD head 0 0)) k Line p (sym e ∙ h) .1))
 
-    back : Comes ls → ((q : ℕ) × (p ≡ q + 1) × FirstBad (stands ls) (length ls) q) → kitLines ls ≡ refused 15 p
-    back (breaks q b e) h = let z : q + 1 ≡ p = omega (arith, h .1, one-bad q (h .0) b (h .2)) in e ∙ ap (λ (m : ℕ). refused 15 m) z
+    back : Comes ls → ((q : ℕ) × (p ≡ q + 1) × FirstBad (stands ls) (length ls) q) → kitLines ls ≡ refused Line p
+    back (breaks q b e) h = let z : q + 1 ≡ p = omega (arith, h .1, one-bad q (h .0) b (h .2)) in e ∙ ap (λ (m : ℕ). refused Line m) z
     back (stand head a f k e) h = absurd (none-bad (h .0) a (h .2))
 
-pub lines-sixteen : (ls : List (List ℕ)) (p : ℕ) → (kitLines ls ≡ refused 16 p) ↔ ((p ≡ 0) × AllStand (stands ls) (length ls) × Miscounted ls)
+pub lines-sixteen : (ls : List (List ℕ)) (p : ℕ) → (kitLines ls ≡ refused Lines p) ↔ ((p ≡ 0) × AllStand (stands ls) (length ls) × Miscounted ls)
 lines-sixteen ls p = (there (comes ls), back (comes ls))
   where
-    there : Comes ls → kitLines ls ≡ refused 16 p → (p ≡ 0) × AllStand (stands ls) (length ls) × Miscounted ls
-    there (breaks q b e) h = absurd (omega (arith, same-answer 15 16 (q + 1) p (sym e ∙ h) .0))
-    there (stand head a f k e) h = let x = sixteen-or (eqb (countOf blockForm ls (length ls)) (getD head 0 0)) k 16 p (sym e ∙ h) in (x .2, a, record { head = head; says = f; differs = eqb-false _ _ (x .0) })
+    there : Comes ls → kitLines ls ≡ refused Lines p → (p ≡ 0) × AllStand (stands ls) (length ls) × Miscounted ls
+    there (breaks q b e) h = absurd (other-cause (same-refusal Line Lines (q + 1) p (sym e ∙ h) .0))
+    there (stand head a f k e) h = let x = sixteen-or (eqb (countOf blockForm ls (length ls)) (getD head 0 0)) k Lines p (sym e ∙ h) in (x .2, a, record { head = head; says = f; differs = eqb-false _ _ (x .0) })
 
-    back : Comes ls → (p ≡ 0) × AllStand (stands ls) (length ls) × Miscounted ls → kitLines ls ≡ refused 16 p
+    back : Comes ls → (p ≡ 0) × AllStand (stands ls) (length ls) × Miscounted ls → kitLines ls ≡ refused Lines p
     back (breaks q b e) h = absurd (none-bad q (h .1) b)
     back (stand head a f k e) h =
         let w = h .2 in
@@ -226,9 +230,9 @@ lines-sixteen ls p = (there (comes ls), back (comes ls))
         e ∙ rw (n, h .0)
 
 -- the lines are refused with 15 or 16
-pub lines-numbers : (ls : List (List ℕ)) (n p : ℕ) → kitLines ls ≡ refused n p → (n ≡ 15) ⊎ (n ≡ 16)
-lines-numbers ls n p e = go (comes ls)
+pub lines-causes : (ls : List (List ℕ)) (c : Cause) (p : ℕ) → kitLines ls ≡ refused c p → (c ≡ Line) ⊎ (c ≡ Lines)
+lines-causes ls c p e = go (comes ls)
   where
-    go : Comes ls → (n ≡ 15) ⊎ (n ≡ 16)
-    go (breaks q b h) = inl (sym (same-answer 15 n (q + 1) p (sym h ∙ e) .0))
-    go (stand head a f k h) = inr (sixteen-or (eqb (countOf blockForm ls (length ls)) (getD head 0 0)) k n p (sym h ∙ e) .1)
+    go : Comes ls → (c ≡ Line) ⊎ (c ≡ Lines)
+    go (breaks q b h) = inl (sym (same-refusal Line c (q + 1) p (sym h ∙ e) .0))
+    go (stand head a f k h) = inr (sixteen-or (eqb (countOf blockForm ls (length ls)) (getD head 0 0)) k c p (sym h ∙ e) .1)

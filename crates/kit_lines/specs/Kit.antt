@@ -5,7 +5,8 @@ use mathlib.Core.Option.{some, none}
 use lib.Dec.{ltb, eqb}
 use lib.ListN.{length, getD, drop}
 use Rattle.folds.specs.Fold.{pick}
-use Rattle.line_forms.specs.Answer.{Answer, accepted, refused}
+use Rattle.validity.specs.declared.Cause.{Cause}
+use Rattle.validity.specs.declared.Cause.the-variants.{Length, Line, Lines}
 use Rattle.line_forms.specs.Form.{asForm}
 use Rattle.line_forms.specs.Lines.{linesOf, leading, ofForm, column}
 use Rattle.kit_lines.specs.Forms.{kitForm, blockForm, wireForm}
@@ -18,6 +19,11 @@ pub record Kit : Type 0 where
   pub starts : List ℕ
   pub ends : List ℕ
   pub widths : List ℕ
+
+-- what a text says: a kit, or why it says none, and the place
+pub data Says : Type 0 where
+  accepted : Kit → Says
+  refused : Cause → ℕ → Says
 
 -- the kit of a kit line's numbers and the rows of its block and wire lines
 abbrev pub kitFrom : List ℕ → List (List ℕ) → List (List ℕ) → Kit
@@ -40,20 +46,20 @@ unfoldable pub wireRows : List (List ℕ) → List (List ℕ)
 wireRows ls = leading (ofForm wireForm) 0 1024 ls
 
 -- block lines, wire lines and no other line; as many block lines as the kit line says
-unfoldable pub kitWith : List ℕ → List (List ℕ) → List (List ℕ) → ℕ → Answer Kit
+unfoldable pub kitWith : List ℕ → List (List ℕ) → List (List ℕ) → ℕ → Says
 kitWith head blocks wires lines =
-    pick (ltb (length blocks + length wires) lines) (refused 15 (length blocks + length wires + 2))
-    (pick (eqb (length blocks) (getD head 0 0)) (accepted (kitFrom head blocks wires)) (refused 16 0))
+    pick (ltb (length blocks + length wires) lines) (refused Line (length blocks + length wires + 2))
+    (pick (eqb (length blocks) (getD head 0 0)) (accepted (kitFrom head blocks wires)) (refused Lines 0))
 
 -- the lines after the kit line
-unfoldable pub kitAfter : List ℕ → List (List ℕ) → Answer Kit
+unfoldable pub kitAfter : List ℕ → List (List ℕ) → Says
 kitAfter head ls = kitWith head (blockRows ls) (wireRows (drop (length (blockRows ls)) ls)) (length ls)
 
 -- exactly one kit line, then block lines, then wire lines
-unfoldable pub kitLines : List (List ℕ) → Answer Kit
-kitLines [] = refused 15 1
-kitLines (l ∷ ls) = elim (asForm kitForm l) [ some head ↦ kitAfter head ls | none ↦ refused 15 1 ]
+unfoldable pub kitLines : List (List ℕ) → Says
+kitLines [] = refused Line 1
+kitLines (l ∷ ls) = elim (asForm kitForm l) [ some head ↦ kitAfter head ls | none ↦ refused Line 1 ]
 
 -- what a text says
-unfoldable pub kitOf : List ℕ → Answer Kit
-kitOf t = pick (ltb 65536 (length t)) (refused 14 0) (kitLines (linesOf t))
+unfoldable pub kitOf : List ℕ → Says
+kitOf t = pick (ltb 65536 (length t)) (refused Length 0) (kitLines (linesOf t))

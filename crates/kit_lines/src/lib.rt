@@ -2,7 +2,7 @@ ghost use mathlib.Core.Path.{_≡_};
 ghost use Rattle.line_forms.specs.Lines.{Ran, ofForm};
 ghost use Rattle.line_forms.specs.Read.{readForm, asOne, asThree};
 ghost use Rattle.kit_lines.specs.Forms.{kitForm, blockForm, wireForm};
-ghost use Rattle.kit_lines.specs.Scan.{Scanned};
+ghost use Rattle.kit_lines.specs.Scan.{ofLetter, mostOf, Passed, Scanned};
 use decimal::Number;
 use line_forms::Run;
 use line_forms::Triple;
@@ -62,6 +62,16 @@ pub fn wire_line(text: &[u8], at: usize) -> Triple
     )
 }
 
+// The kit line at a place, if it is there.
+fn head_line(text: &[u8], at: usize) -> Run
+    ensures { λ r. ⌜ Ran (ofForm kitForm) (now (text .entry)) 1 at (r .count) (r .next) ⌝ }
+{
+    match kit_line(text, at) {
+        Triple::Are(_, _, _, i) => Run { count: 1, next: i },
+        Triple::No => Run { count: 0, next: at },
+    }
+}
+
 // The block lines from a place on, at most 512.
 pub fn block_lines(text: &[u8], at: usize) -> Run
     ensures { λ r. ⌜ Ran (ofForm blockForm) (now (text .entry)) 512 at (r .count) (r .next) ⌝ }
@@ -94,19 +104,31 @@ pub fn wire_lines(text: &[u8], at: usize) -> Run
     Run { count: n, next: i }
 }
 
-// The checks of the lines: 15, then 16.
-pub fn scan_at(text: &[u8], at: usize) -> Scan
-    ensures { λ r. ⌜ Scanned (now (text .entry)) at r ⌝ }
+// The lines of one kind from a place on, by the letter that their word begins with: the kit line (k), block lines (b), wire
+// lines (any other).
+pub fn lines_of(text: &[u8], at: usize, letter: u8) -> Run
+    ensures { λ r. ⌜ Ran (ofLetter letter) (now (text .entry)) (mostOf letter) at (r .count) (r .next) ⌝ }
 {
-    let Triple::Are(b, k, l, i) = kit_line(text, at) else {
+    if letter == b'k' {
+        return head_line(text, at);
+    }
+    if letter == b'b' {
+        return block_lines(text, at);
+    }
+    wire_lines(text, at)
+}
+
+// The checks of the lines, 15 and then 16, of a text whose kit line, block lines and wire lines have been passed.
+pub fn judged(text: &[u8], head: Run, blocks: Run, wires: Run) -> Scan
+    requires { ⌜ Passed (now text) (head .next) (blocks .count) (blocks .next) (wires .count) (wires .next) ⌝ }
+    ensures { λ r. ⌜ Scanned (now (text .entry)) r ⌝ }
+{
+    let Triple::Are(b, k, l, _) = kit_line(text, 0) else {
         return Scan::Refused(Cause::Line, 1);
     };
-    let bs = block_lines(text, i);
-    let n = bs.count;
-    let j = bs.next;
-    let ws = wire_lines(text, j);
-    let m = ws.count;
-    let e = ws.next;
+    let n = blocks.count;
+    let m = wires.count;
+    let e = wires.next;
     if e < text.len() {
         return Scan::Refused(Cause::Line, n + m + 2);
     }
@@ -118,7 +140,7 @@ pub fn scan_at(text: &[u8], at: usize) -> Scan
         limit: l,
         blocks: n,
         wires: m,
-        first_block: i,
-        first_wire: j,
+        first_block: head.next,
+        first_wire: blocks.next,
     })
 }

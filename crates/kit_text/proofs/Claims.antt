@@ -11,14 +11,16 @@ use borrow.Author.Tests.{lt-ltb, le-ltb, ltb-true, ltb-false}
 use Rattle.folds.specs.Fold.{over}
 use Rattle.folds.proofs.Cases.{by}
 use Rattle.line_forms.specs.Lines.{linesOf}
-use Rattle.line_forms.specs.Answer.{Answer, accepted, refused}
 use Rattle.line_forms.specs.Stand.{FirstBad, AllStand}
-use Rattle.line_forms.proofs.Answer.{refused-accepted, same-answer}
-use Rattle.kit_lines.specs.Kit.{Kit, kitLines, kitOf}
+use Rattle.validity.specs.Cause.{numberOf}
+use Rattle.validity.specs.declared.Cause.{Cause}
+use Rattle.validity.specs.declared.Cause.the-variants.{Room, Length, Line, Lines}
+use Rattle.kit_lines.proofs.Says.{refused-accepted, same-refusal}
+use Rattle.kit_lines.specs.Kit.{Kit, Says, accepted, refused, kitLines, kitOf}
 use Rattle.kit_lines.specs.Grammar.{kitText, Within, stands, Miscounted}
 use Rattle.kit_text.specs.Reading.{Lists, lists, roomed, readingOf, written, Roomy}
 use Rattle.kit_lines.proofs.Accepted.{accepted-own, accepted-sound}
-use Rattle.kit_lines.proofs.Refused.{lines-fifteen, lines-sixteen, lines-numbers}
+use Rattle.kit_lines.proofs.Refused.{lines-fifteen, lines-sixteen, lines-causes}
 
 -- ---------------------------------------------------------------- check 4
 roomed-yes : (old : Lists) (k : Kit) → Roomy old k → roomed old (accepted k) ≡ accepted k
@@ -29,7 +31,7 @@ shorter : (a b : ℕ) → ltb a b ≡ true → b ≤ a → ⊥
 shorter a b e h = omega (arith, ltb-true a b e)
 
 -- it is passed, or refuses
-roomed-or : (old : Lists) (k : Kit) → Roomy old k ⊎ ((roomed old (accepted k) ≡ refused 4 0) × (Roomy old k → ⊥))
+roomed-or : (old : Lists) (k : Kit) → Roomy old k ⊎ ((roomed old (accepted k) ≡ refused Room 0) × (Roomy old k → ⊥))
 unfolding roomed
 roomed-or old k =
     by (ltb (length (old .costs)) (length (k .costs))) (λ e. inr (rw e, λ r. shorter _ _ e (r .costs)))
@@ -40,7 +42,7 @@ roomed-or old k =
 
 -- ---------------------------------------------------------------- check 14
 data Long (t : List ℕ) : Type 0 where
-  long : 65536 < length t → kitOf t ≡ refused 14 0 → Long t
+  long : 65536 < length t → kitOf t ≡ refused Length 0 → Long t
   short : length t ≤ 65536 → kitOf t ≡ kitLines (linesOf t) → Long t
 
 long-or : (t : List ℕ) → Long t
@@ -48,14 +50,14 @@ unfolding kitOf
 long-or t = by (ltb 65536 (length t)) (λ e. long (ltb-true 65536 (length t) e) (rw e)) (λ e. short (ltb-false 65536 (length t) e) (rw e))
 
 -- a refusal of the lines
-of-lines : (t : List ℕ) (n p : ℕ) → (n ≡ 14 → ⊥) → (kitOf t ≡ refused n p) ↔ ((length t ≤ 65536) × (kitLines (linesOf t) ≡ refused n p))
-of-lines t n p h = (there (long-or t), λ x. back (x .0) (x .1) (long-or t))
+of-lines : (t : List ℕ) (c : Cause) (p : ℕ) → (c ≡ Length → ⊥) → (kitOf t ≡ refused c p) ↔ ((length t ≤ 65536) × (kitLines (linesOf t) ≡ refused c p))
+of-lines t c p h = (there (long-or t), λ x. back (x .0) (x .1) (long-or t))
   where
-    there : Long t → kitOf t ≡ refused n p → (length t ≤ 65536) × (kitLines (linesOf t) ≡ refused n p)
-    there (long g q) e = absurd (h (sym (same-answer 14 n 0 p (sym q ∙ e) .0)))
+    there : Long t → kitOf t ≡ refused c p → (length t ≤ 65536) × (kitLines (linesOf t) ≡ refused c p)
+    there (long g q) e = absurd (h (sym (same-refusal Length c 0 p (sym q ∙ e) .0)))
     there (short g q) e = (g, sym q ∙ e)
 
-    back : length t ≤ 65536 → kitLines (linesOf t) ≡ refused n p → Long t → kitOf t ≡ refused n p
+    back : length t ≤ 65536 → kitLines (linesOf t) ≡ refused c p → Long t → kitOf t ≡ refused c p
     back g e (long l q) = absurd (omega arith)
     back g e (short l q) = q ∙ e
 
@@ -65,8 +67,8 @@ pub accepted-exactly : (t : List ℕ) (old : Lists) (k : Kit) → (readingOf t o
 unfolding readingOf roomed
 accepted-exactly t old k = (λ e. there (kitOf t) refl e, λ x. rw (x .0, accepted-own k (x .1)) (roomed-yes old k (x .2)))
   where
-    fine : (j : Kit) → kitOf t ≡ accepted j → roomed old (accepted j) ≡ accepted k → Roomy old j ⊎ ((roomed old (accepted j) ≡ refused 4 0) × (Roomy old j → ⊥)) → (t ≡ kitText k) × Within k × Roomy old k
-    fine j q e (inr x) = absurd (refused-accepted 4 0 k (sym (x .0) ∙ e))
+    fine : (j : Kit) → kitOf t ≡ accepted j → roomed old (accepted j) ≡ accepted k → Roomy old j ⊎ ((roomed old (accepted j) ≡ refused Room 0) × (Roomy old j → ⊥)) → (t ≡ kitText k) × Within k × Roomy old k
+    fine j q e (inr x) = absurd (refused-accepted Room 0 k (sym (x .0) ∙ e))
     fine j q e (inl r) =
         let z : j ≡ k = same-kit (sym (roomed-yes old j r) ∙ e) in
         let s = accepted-sound t k (q ∙ ap accepted z) in
@@ -75,19 +77,19 @@ accepted-exactly t old k = (λ e. there (kitOf t) refl e, λ x. rw (x .0, accept
         same-kit : accepted j ≡ accepted k → j ≡ k
         same-kit h = cc
 
-    there : (a : Answer Kit) → kitOf t ≡ a → roomed old a ≡ accepted k → (t ≡ kitText k) × Within k × Roomy old k
-    there (refused n p) q e = absurd (refused-accepted n p k e)
+    there : (a : Says) → kitOf t ≡ a → roomed old a ≡ accepted k → (t ≡ kitText k) × Within k × Roomy old k
+    there (refused c p) q e = absurd (refused-accepted c p k e)
     there (accepted j) q e = fine j q e (roomed-or old j)
 
-not-fourteen : (ls : List (List ℕ)) (p : ℕ) → kitLines ls ≡ refused 14 p → ⊥
-not-fourteen ls p e = ⊎-elim (λ z. omega arith) (λ z. omega arith) (lines-numbers ls 14 p e)
+not-fourteen : (ls : List (List ℕ)) (p : ℕ) → kitLines ls ≡ refused Length p → ⊥
+not-fourteen ls p e = ⊎-elim (λ z. omega (arith, ap numberOf z)) (λ z. omega (arith, ap numberOf z)) (lines-causes ls Length p e)
 
-never-four : (t : List ℕ) (n p : ℕ) → kitOf t ≡ refused n p → n ≡ 4 → ⊥
-never-four t n p e z = go (long-or t)
+never-four : (t : List ℕ) (c : Cause) (p : ℕ) → kitOf t ≡ refused c p → c ≡ Room → ⊥
+never-four t c p e z = go (long-or t)
   where
     go : Long t → ⊥
-    go (long h q) = omega (arith, same-answer 14 n 0 p (sym q ∙ e) .0)
-    go (short h q) = ⊎-elim (λ y. omega arith) (λ y. omega arith) (lines-numbers (linesOf t) n p (sym q ∙ e))
+    go (long h q) = omega (arith, ap numberOf (same-refusal Length c 0 p (sym q ∙ e) .0 ∙ z))
+    go (short h q) = ⊎-elim (λ y. omega (arith, ap numberOf (sym y ∙ z))) (λ y. omega (arith, ap numberOf (sym y ∙ z))) (lines-causes (linesOf t) c p (sym q ∙ e))
 
 -- the round trip: reading the text of a kit gives its lists back
 pub round-trip : (k : Kit) (old : Lists) → Within k → Roomy old k
@@ -97,53 +99,53 @@ unfolding written
 round-trip k old w r = let e = accepted-exactly (kitText k) old k .1 (refl, w, r) in (e, rw e)
 
 -- 4, place 0, exactly if the text is that of a kit and some list is too short for it
-pub four-exactly : (t : List ℕ) (old : Lists) (p : ℕ) → (readingOf t old ≡ refused 4 p) ↔ ((p ≡ 0) × ((k : Kit) × (t ≡ kitText k) × Within k × (Roomy old k → ⊥)))
+pub four-exactly : (t : List ℕ) (old : Lists) (p : ℕ) → (readingOf t old ≡ refused Room p) ↔ ((p ≡ 0) × ((k : Kit) × (t ≡ kitText k) × Within k × (Roomy old k → ⊥)))
 unfolding readingOf roomed
 four-exactly t old p = (λ e. there (kitOf t) refl e, λ x. back (x .0) (x .1 .0) (x .1 .1) (x .1 .2) (x .1 .3) (roomed-or old (x .1 .0)))
   where
-    fine : (k : Kit) → kitOf t ≡ accepted k → roomed old (accepted k) ≡ refused 4 p → Roomy old k ⊎ ((roomed old (accepted k) ≡ refused 4 0) × (Roomy old k → ⊥)) → (p ≡ 0) × ((k : Kit) × (t ≡ kitText k) × Within k × (Roomy old k → ⊥))
-    fine k q e (inl r) = absurd (refused-accepted 4 p k (sym e ∙ roomed-yes old k r))
-    fine k q e (inr x) = let s = accepted-sound t k q in (sym (same-answer 4 4 0 p (sym (x .0) ∙ e) .1), (k, s .0, s .1, x .1))
+    fine : (k : Kit) → kitOf t ≡ accepted k → roomed old (accepted k) ≡ refused Room p → Roomy old k ⊎ ((roomed old (accepted k) ≡ refused Room 0) × (Roomy old k → ⊥)) → (p ≡ 0) × ((k : Kit) × (t ≡ kitText k) × Within k × (Roomy old k → ⊥))
+    fine k q e (inl r) = absurd (refused-accepted Room p k (sym e ∙ roomed-yes old k r))
+    fine k q e (inr x) = let s = accepted-sound t k q in (sym (same-refusal Room Room 0 p (sym (x .0) ∙ e) .1), (k, s .0, s .1, x .1))
 
-    there : (a : Answer Kit) → kitOf t ≡ a → roomed old a ≡ refused 4 p → (p ≡ 0) × ((k : Kit) × (t ≡ kitText k) × Within k × (Roomy old k → ⊥))
+    there : (a : Says) → kitOf t ≡ a → roomed old a ≡ refused Room p → (p ≡ 0) × ((k : Kit) × (t ≡ kitText k) × Within k × (Roomy old k → ⊥))
     there (accepted k) q e = fine k q e (roomed-or old k)
-    there (refused n m) q e = absurd (never-four t n m q (same-answer n 4 m p e .0))
+    there (refused c m) q e = absurd (never-four t c m q (same-refusal c Room m p e .0))
 
-    back : p ≡ 0 → (k : Kit) → t ≡ kitText k → Within k → (Roomy old k → ⊥) → Roomy old k ⊎ ((roomed old (accepted k) ≡ refused 4 0) × (Roomy old k → ⊥)) → roomed old (kitOf t) ≡ refused 4 p
+    back : p ≡ 0 → (k : Kit) → t ≡ kitText k → Within k → (Roomy old k → ⊥) → Roomy old k ⊎ ((roomed old (accepted k) ≡ refused Room 0) × (Roomy old k → ⊥)) → roomed old (kitOf t) ≡ refused Room p
     back z k q w h (inl r) = absurd (h r)
     back z k q w h (inr x) = rw (q, accepted-own k w, z) (x .0)
 
 -- the other refusals are those of the text alone
-pub other-exactly : (t : List ℕ) (old : Lists) (n p : ℕ) → (n ≡ 4 → ⊥) → (readingOf t old ≡ refused n p) ↔ (kitOf t ≡ refused n p)
+pub other-exactly : (t : List ℕ) (old : Lists) (c : Cause) (p : ℕ) → (c ≡ Room → ⊥) → (readingOf t old ≡ refused c p) ↔ (kitOf t ≡ refused c p)
 unfolding readingOf roomed
-other-exactly t old n p h = (λ e. there (kitOf t) refl e, λ e. rw e)
+other-exactly t old c p h = (λ e. there (kitOf t) refl e, λ e. rw e)
   where
-    fine : (k : Kit) → roomed old (accepted k) ≡ refused n p → Roomy old k ⊎ ((roomed old (accepted k) ≡ refused 4 0) × (Roomy old k → ⊥)) → ⊥
-    fine k e (inl r) = refused-accepted n p k (sym e ∙ roomed-yes old k r)
-    fine k e (inr x) = h (sym (same-answer 4 n 0 p (sym (x .0) ∙ e) .0))
+    fine : (k : Kit) → roomed old (accepted k) ≡ refused c p → Roomy old k ⊎ ((roomed old (accepted k) ≡ refused Room 0) × (Roomy old k → ⊥)) → ⊥
+    fine k e (inl r) = refused-accepted c p k (sym e ∙ roomed-yes old k r)
+    fine k e (inr x) = h (sym (same-refusal Room c 0 p (sym (x .0) ∙ e) .0))
 
-    there : (a : Answer Kit) → kitOf t ≡ a → roomed old a ≡ refused n p → kitOf t ≡ refused n p
+    there : (a : Says) → kitOf t ≡ a → roomed old a ≡ refused c p → kitOf t ≡ refused c p
     there (refused m q) z e = z ∙ e
     there (accepted k) z e = absurd (fine k e (roomed-or old k))
 
 -- 14, place 0, exactly if the text is above 65,536 bytes
-pub fourteen-exactly : (t : List ℕ) (old : Lists) (p : ℕ) → (readingOf t old ≡ refused 14 p) ↔ ((p ≡ 0) × (65536 < length t))
+pub fourteen-exactly : (t : List ℕ) (old : Lists) (p : ℕ) → (readingOf t old ≡ refused Length p) ↔ ((p ≡ 0) × (65536 < length t))
 unfolding kitOf
 fourteen-exactly t old p = (λ e. there (long-or t) (o .0 e), λ x. o .1 (rw (lt-ltb 65536 (length t) (x .1), x .0)))
   where
-    o : (readingOf t old ≡ refused 14 p) ↔ (kitOf t ≡ refused 14 p)
-    o = other-exactly t old 14 p (λ z. omega arith)
+    o : (readingOf t old ≡ refused Length p) ↔ (kitOf t ≡ refused Length p)
+    o = other-exactly t old Length p (λ z. omega (arith, ap numberOf z))
 
-    there : Long t → kitOf t ≡ refused 14 p → (p ≡ 0) × (65536 < length t)
-    there (long h q) e = (sym (same-answer 14 14 0 p (sym q ∙ e) .1), h)
+    there : Long t → kitOf t ≡ refused Length p → (p ≡ 0) × (65536 < length t)
+    there (long h q) e = (sym (same-refusal Length Length 0 p (sym q ∙ e) .1), h)
     there (short h q) e = absurd (not-fourteen (linesOf t) p (sym q ∙ e))
 
 -- 15 at p exactly if line p, from 1, is the first that may not stand where it does
-pub fifteen-exactly : (t : List ℕ) (old : Lists) (p : ℕ) → (readingOf t old ≡ refused 15 p) ↔ ((length t ≤ 65536) × ((q : ℕ) × (p ≡ q + 1) × FirstBad (stands (linesOf t)) (length (linesOf t)) q))
-fifteen-exactly t old p = let o = other-exactly t old 15 p (λ z. omega arith) in let l = of-lines t 15 p (λ z. omega arith) in
+pub fifteen-exactly : (t : List ℕ) (old : Lists) (p : ℕ) → (readingOf t old ≡ refused Line p) ↔ ((length t ≤ 65536) × ((q : ℕ) × (p ≡ q + 1) × FirstBad (stands (linesOf t)) (length (linesOf t)) q))
+fifteen-exactly t old p = let o = other-exactly t old Line p (λ z. omega (arith, ap numberOf z)) in let l = of-lines t Line p (λ z. omega (arith, ap numberOf z)) in
     (λ e. let x = l .0 (o .0 e) in (x .0, lines-fifteen (linesOf t) p .0 (x .1)), λ x. o .1 (l .1 (x .0, lines-fifteen (linesOf t) p .1 (x .1))))
 
 -- 16, place 0, exactly if every line may stand where it does and the kit line gives another number of block lines
-pub sixteen-exactly : (t : List ℕ) (old : Lists) (p : ℕ) → (readingOf t old ≡ refused 16 p) ↔ ((length t ≤ 65536) × ((p ≡ 0) × AllStand (stands (linesOf t)) (length (linesOf t)) × Miscounted (linesOf t)))
-sixteen-exactly t old p = let o = other-exactly t old 16 p (λ z. omega arith) in let l = of-lines t 16 p (λ z. omega arith) in
+pub sixteen-exactly : (t : List ℕ) (old : Lists) (p : ℕ) → (readingOf t old ≡ refused Lines p) ↔ ((length t ≤ 65536) × ((p ≡ 0) × AllStand (stands (linesOf t)) (length (linesOf t)) × Miscounted (linesOf t)))
+sixteen-exactly t old p = let o = other-exactly t old Lines p (λ z. omega (arith, ap numberOf z)) in let l = of-lines t Lines p (λ z. omega (arith, ap numberOf z)) in
     (λ e. let x = l .0 (o .0 e) in (x .0, lines-sixteen (linesOf t) p .0 (x .1)), λ x. o .1 (l .1 (x .0, lines-sixteen (linesOf t) p .1 (x .1))))

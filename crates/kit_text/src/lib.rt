@@ -2,13 +2,14 @@ ghost use mathlib.Core.Path.{_≡_};
 ghost use Prim.Native.Nat.{_≤_};
 ghost use lib.ListN.{length};
 ghost use Rattle.folds.specs.Fold.{over};
-ghost use Rattle.line_forms.specs.Lines.{column};
-ghost use Rattle.kit_lines.specs.Scan.{blocksAt, wiresAt, laidOut, IsFine, Scanned};
+ghost use Rattle.line_forms.specs.Lines.{Ran, column};
+ghost use Rattle.kit_lines.specs.Scan.{ofLetter, mostOf, blocksAt, wiresAt, laidOut, IsFine, Scanned};
 ghost use Rattle.kit_text.specs.Reading.{lists, roomed, readingOf, written, figures, outcome};
 use decimal::Number;
 use validity::Cause;
 use kit_lines::Layout;
 use kit_lines::Scan;
+use line_forms::Run;
 use line_forms::Triple;
 
 // The reader of kit text (document 01, "Kit text").
@@ -31,25 +32,31 @@ pub fn open<'a>(text: &'a [u8]) -> KitReader<'a>
     KitReader { text, at: 0 }
 }
 
-// The reader further on, or back.
-pub fn moved<'a>(r: KitReader<'a>, at: usize) -> KitReader<'a>
-    ensures { λ q. ⌜ (q .text ≡ r .entry .text) × (q .at ≡ at) ⌝ }
+// The lines of one kind that come next, by the letter that their word begins with: how many, and how far they go.
+pub fn lines<'a>(r: KitReader<'a>, letter: u8) -> Run
+    ensures { λ q. ⌜ Ran (ofLetter letter) (now (r .entry .text)) (mostOf letter) (r .entry .at) (q .count) (q .next) ⌝ }
 {
-    KitReader { text: r.text, at }
+    kit_lines::lines_of(r.text, r.at, letter)
 }
 
-// What is left to read, checked as a kit text.
-pub fn checked<'a>(r: KitReader<'a>) -> Scan
-    ensures { λ s. ⌜ Scanned (now (r .entry .text)) (r .entry .at) s ⌝ }
+// The reader past those lines.
+pub fn past<'a>(r: KitReader<'a>, run: Run) -> KitReader<'a>
+    ensures { λ q. ⌜ (q .text ≡ r .entry .text) × (q .at ≡ run .next) ⌝ }
 {
-    kit_lines::scan_at(r.text, r.at)
+    KitReader { text: r.text, at: run.next }
 }
 
-// A whole text: what every other caller uses.
+// Checks 15 and 16: the reader goes past the kit line, the block lines and the wire lines, and what it met is judged.
 pub fn check_text(text: &[u8]) -> Scan
-    ensures { λ s. ⌜ Scanned (now (text .entry)) 0 s ⌝ }
+    ensures { λ s. ⌜ Scanned (now (text .entry)) s ⌝ }
 {
-    checked(open(text))
+    let r = open(text);
+    let head = lines(r, b'k');
+    let s = past(r, head);
+    let blocks = lines(s, b'b');
+    let t = past(s, blocks);
+    let wires = lines(t, b'w');
+    kit_lines::judged(text, head, blocks, wires)
 }
 
 fn write_costs(text: &[u8], at: usize, costs: &mut [u16])
@@ -97,7 +104,7 @@ fn load(
     ends: &mut [u16],
     widths: &mut [u16],
 ) -> Reading
-    requires { ⌜ IsFine (now text) 0 y ⌝ }
+    requires { ⌜ IsFine (now text) y ⌝ }
     ensures { λ r. ⌜ outcome r ≡ figures (roomed (lists (now (costs .entry)) (now (starts .entry)) (now (ends .entry)) (now (widths .entry))) (laidOut (now (text .entry)) y)) ⌝ }
     ensures { λ _. ⌜ lists (now (costs .exit)) (now (starts .exit)) (now (ends .exit)) (now (widths .exit)) ≡ written (roomed (lists (now (costs .entry)) (now (starts .entry)) (now (ends .entry)) (now (widths .entry))) (laidOut (now (text .entry)) y)) (lists (now (costs .entry)) (now (starts .entry)) (now (ends .entry)) (now (widths .entry))) ⌝ }
 {

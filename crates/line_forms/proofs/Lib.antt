@@ -3,4 +3,3 @@ pub mod Lines
 pub mod Steps
 pub mod Rows
 pub mod Stand
-pub mod Answer

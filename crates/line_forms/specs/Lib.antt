@@ -1,5 +1,4 @@
 pub mod Form
 pub mod Lines
 pub mod Read
-pub mod Answer
 pub mod Stand

@@ -1,3 +1,4 @@
+-- Check 4 list by list, then both passes: each return by the tests before it.
 use borrow.Author.Needs.{needs}
 use native.Mathlib.Omega.{arith}
 use Rattle.kit_text.proofs.Room.{too-short, short-costs, short-starts, short-ends, short-widths, all-written}

@@ -1,3 +1,4 @@
+-- Too long, refused by the lines, or loaded: each case by what the calls before it ensure.
 use borrow.Author.Needs.{needs}
 use Rattle.kit_lines.proofs.Checks.{scan-fine, scan-refused}
 use Rattle.kit_text.proofs.Room.{too-long, bad-lines, loaded}
