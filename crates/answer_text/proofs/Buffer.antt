@@ -2,7 +2,7 @@
 use Prim.Native.Nat.{ℕ, _+_, _-_, _≤_, _<_}
 use mathlib.Core.Path.{_≡_, refl, sym, ap, _∙_, subst}
 use mathlib.Core.Bool.{Bool, true, false}
-use mathlib.Core.List.{List, _++_}
+use mathlib.Core.List.{List, [], _∷_, _++_}
 use native.Mathlib.Omega.{arith}
 use lib.Dec.{ltb}
 use lib.ListN.{length, length-append}
@@ -13,8 +13,10 @@ use Rattle.decimal.proofs.Writing.{puts-then, room-then}
 use Rattle.line_forms.specs.Form.{Form, printed, printedAll, needs, needsAll}
 use Rattle.line_forms.proofs.Rows.{needs-are, needs-all}
 use Rattle.answer_text.specs.Forms.{entryForm}
-use Rattle.line_forms.specs.Answer.{accepted, refused}
-use Rattle.answer_text.specs.Answers.{enumerated, tableText, tableNeeds, writing, written, RoomIs}
+use Rattle.validity.specs.Cause.{refusal, told}
+use Rattle.validity.specs.declared.Cause.the-variants as cause
+use Rattle.validity.specs.declared.Verdict.the-variants.{Passed}
+use Rattle.answer_text.specs.Answers.{enumerated, tableText, writing, written, RoomIs}
 use Rattle.answer_text.specs.declared.Room.{Room}
 use Rattle.answer_text.specs.declared.Room.the-variants.{Left, Over}
 
@@ -24,27 +26,34 @@ unfolding put over
 put-front l s = let z : 0 + length s ≡ length s = omega arith in rw z
 
 -- a buffer that is too short, and one that is not
-module _ (need : ℕ) (text buf : List ℕ) where
-  pub short-of : true ≡ ltb (length buf) need → (refused 4 0 ≡ writing need buf) × (buf ≡ written need text buf)
+module _ (text buf : List ℕ) where
+  pub short-of : true ≡ ltb (length buf) (length text) → (refusal cause.Room 0 ≡ writing text buf) × (buf ≡ written text buf)
   unfolding writing written
   short-of e = rw (← e) (refl, refl)
 
-  pub long-for : false ≡ ltb (length buf) need → need ≡ length text → {now : List ℕ} {n : ℕ} → Puts buf 0 text now n → (accepted n ≡ writing need buf) × (now ≡ written need text buf)
+  pub long-for : false ≡ ltb (length buf) (length text) → {now : List ℕ} {n : ℕ} → Puts buf 0 text now n → (told Passed (n ∷ []) ≡ writing text buf) × (now ≡ written text buf)
   unfolding writing written
-  long-for e q {now} {n} p =
-      let z : n ≡ need = omega (arith, p .next) in
-      rw (← e) (ap accepted z, p .is ∙ put-front buf text)
+  long-for e {now} {n} p =
+      let z : n ≡ length text = omega (arith, p .next) in
+      rw (← e) (ap (λ (m : ℕ). told Passed (m ∷ [])) z, p .is ∙ put-front buf text)
 
 -- a head line and the lines of a table
 module _ (head : Form) (vs word entries : List ℕ) where
-  pub table-needs : tableNeeds head vs word entries ≡ length (tableText head vs word entries)
-  unfolding tableNeeds tableText
-  table-needs = rw (needs-are head vs, needs-all (entryForm word) (enumerated 0 entries)) (sym (length-append (printed head vs) (printedAll (entryForm word) (enumerated 0 entries))))
+  abbrev text : List ℕ
+  text = tableText head vs word entries
+
+  -- the bytes that were counted are the length of the text
+  table-length : needs head vs + needsAll (entryForm word) (enumerated 0 entries) ≡ length text
+  unfolding tableText
+  table-length = rw (needs-are head vs, needs-all (entryForm word) (enumerated 0 entries)) (sym (length-append (printed head vs) (printedAll (entryForm word) (enumerated 0 entries))))
+
+  of-length : (buf : List ℕ) (b : Bool) → b ≡ ltb (length buf) (needs head vs + needsAll (entryForm word) (enumerated 0 entries)) → b ≡ ltb (length buf) (length text)
+  of-length buf b e = e ∙ ap (ltb (length buf)) table-length
 
   module _ (buf : List ℕ) (over-is : false ≡ ltb (length buf) (needs head vs + needsAll (entryForm word) (enumerated 0 entries))) where
     table-fits : 0 + length (printed head vs ++ printedAll (entryForm word) (enumerated 0 entries)) ≤ length buf
-    unfolding tableNeeds tableText
-    table-fits = omega (arith, ltb-false (length buf) _ (sym over-is), table-needs)
+    unfolding tableText
+    table-fits = omega (arith, ltb-false (length buf) _ (sym over-is), table-length)
 
     pub head-room : length (printed head vs) ≤ length buf
     head-room = omega (arith, table-fits, length-append (printed head vs) (printedAll (entryForm word) (enumerated 0 entries)))
@@ -53,15 +62,11 @@ module _ (head : Form) (vs word entries : List ℕ) where
       pub rest-room : i + length (printedAll (entryForm word) (enumerated 0 entries)) ≤ length l
       rest-room = room-then _ h table-fits
 
-      pub table-written : {now : List ℕ} {n : ℕ} → Puts l i (printedAll (entryForm word) (enumerated 0 entries)) now n
-          → (accepted n ≡ writing (tableNeeds head vs word entries) buf) × (now ≡ written (tableNeeds head vs word entries) (tableText head vs word entries) buf)
-      table-written r =
-          long-for (tableNeeds head vs word entries) (tableText head vs word entries) buf (unfold tableNeeds in over-is) table-needs
-          (unfold tableText in puts-then h r table-fits)
+      pub table-written : {now : List ℕ} {n : ℕ} → Puts l i (printedAll (entryForm word) (enumerated 0 entries)) now n → (told Passed (n ∷ []) ≡ writing text buf) × (now ≡ written text buf)
+      table-written r = long-for text buf (of-length buf false over-is) (unfold tableText in puts-then h r table-fits)
 
-  pub table-short : (buf : List ℕ) → true ≡ ltb (length buf) (needs head vs + needsAll (entryForm word) (enumerated 0 entries))
-      → (refused 4 0 ≡ writing (tableNeeds head vs word entries) buf) × (buf ≡ written (tableNeeds head vs word entries) (tableText head vs word entries) buf)
-  table-short buf e = short-of (tableNeeds head vs word entries) (tableText head vs word entries) buf (unfold tableNeeds in e)
+  pub table-short : (buf : List ℕ) → true ≡ ltb (length buf) (needs head vs + needsAll (entryForm word) (enumerated 0 entries)) → (refusal cause.Room 0 ≡ writing text buf) × (buf ≡ written text buf)
+  table-short buf e = short-of text buf (of-length buf true e)
 
 -- what the room left says
 pub room-left : (size head need : ℕ) (x : Room) (l : ℕ) → head ≤ size → RoomIs (size - head) need x → x ≡ Left l → false ≡ ltb size (head + need)
@@ -79,11 +84,11 @@ head-over size head need h = sym (lt-ltb size (head + need) (omega arith))
 
 -- a line by itself, of n bytes
 module _ (f : Form) (vs buf : List ℕ) {n : ℕ} (e : n ≡ needs f vs) where
-  pub line-short : length buf < n → (refused 4 0 ≡ writing (needs f vs) buf) × (buf ≡ written (needs f vs) (printed f vs) buf)
-  line-short h = short-of (needs f vs) (printed f vs) buf (sym (lt-ltb (length buf) (needs f vs) (omega arith)))
+  pub line-short : length buf < n → (refusal cause.Room 0 ≡ writing (printed f vs) buf) × (buf ≡ written (printed f vs) buf)
+  line-short h = short-of (printed f vs) buf (sym (lt-ltb (length buf) (length (printed f vs)) (omega (arith, needs-are f vs))))
 
   pub line-room : n ≤ length buf → length (printed f vs) ≤ length buf
   line-room h = omega (arith, needs-are f vs)
 
-  pub line-written : n ≤ length buf → {now : List ℕ} {r : ℕ} → Puts buf 0 (printed f vs) now r → (accepted r ≡ writing (needs f vs) buf) × (now ≡ written (needs f vs) (printed f vs) buf)
-  line-written h p = long-for (needs f vs) (printed f vs) buf (sym (le-ltb (length buf) (needs f vs) (omega arith))) (needs-are f vs) p
+  pub line-written : n ≤ length buf → {now : List ℕ} {r : ℕ} → Puts buf 0 (printed f vs) now r → (told Passed (r ∷ []) ≡ writing (printed f vs) buf) × (now ≡ written (printed f vs) buf)
+  line-written h p = long-for (printed f vs) buf (sym (le-ltb (length buf) (length (printed f vs)) (line-room h))) p

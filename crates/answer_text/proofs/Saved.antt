@@ -19,7 +19,9 @@ use Rattle.line_forms.proofs.Form.{fits-cons, read-sound}
 use Rattle.line_forms.proofs.Lines.{Reads, form-reads, numbered-reads, if-numbered, lines-none, lines-left, length-column}
 use Rattle.answer_text.specs.Forms.{splitForm, entryForm, blockWord}
 use Rattle.answer_text.specs.Tables.{Saved, saved, badLine, entryRows, savedAfter, savedLines, savedIn, tableAnswer, tableWritten}
-use Rattle.answer_text.specs.declared.tables.Table.the-variants.{Entries, BadLine, Short}
+use Rattle.validity.specs.Cause.{refusal, told as answered}
+use Rattle.validity.specs.declared.Cause.the-variants.{Room, Line}
+use Rattle.validity.specs.declared.Verdict.the-variants.{Passed}
 
 pub split-clear : clear splitForm ≡ true
 unfolding clear plainFields plainWord plain digit
@@ -64,11 +66,11 @@ split-none [] h = refl
 split-none (l ∷ ls) h = rw (h l ls refl, savedLines)
 
 -- a table that is refused for a line, and what that leaves
-bad-line : (x : Saved) (p : ℕ) (old : List ℕ) → x ≡ badLine p → (BadLine p ≡ tableAnswer x (length old)) × (old ≡ tableWritten x old)
+bad-line : (x : Saved) (p : ℕ) (old : List ℕ) → x ≡ badLine p → (refusal Line p ≡ tableAnswer x (length old)) × (old ≡ tableWritten x old)
 unfolding tableAnswer tableWritten
 bad-line x p old e = rw e (refl, refl)
 
-pub no-split-line : (t : List ℕ) (old : List ℕ) {x : Quadruple} → asFour x ≡ readForm splitForm t 0 → x ≡ quadruple.No → (BadLine 1 ≡ tableAnswer (savedIn t) (length old)) × (old ≡ tableWritten (savedIn t) old)
+pub no-split-line : (t : List ℕ) (old : List ℕ) {x : Quadruple} → asFour x ≡ readForm splitForm t 0 → x ≡ quadruple.No → (refusal Line 1 ≡ tableAnswer (savedIn t) (length old)) × (old ≡ tableWritten (savedIn t) old)
 unfolding savedIn
 no-split-line t old e h = bad-line (savedLines (linesOf t)) 1 old (split-none (linesOf t) (split-reads t .missed 0 0 (told asFour e h)))
 
@@ -89,7 +91,7 @@ module _ (t old : List ℕ) {x : Quadruple} (a b c d i n p : ℕ) (e : asFour x 
       let f = split-reads t .found 0 0 head i (told asFour e h) in
       ap savedLines (f .1) ∙ split-some (f .0) head _ (f .2)
 
-  pub bad-entry : p < length t → (BadLine (n + 2) ≡ tableAnswer (savedIn t) (length old)) × (old ≡ tableWritten (savedIn t) old)
+  pub bad-entry : p < length t → (refusal Line (n + 2) ≡ tableAnswer (savedIn t) (length old)) × (old ≡ tableWritten (savedIn t) old)
   unfolding savedAfter
   bad-entry z =
       let l : n < length (linesOf (drop i t)) = omega (arith, lines-left t p z, ap length (run .lines), length-drop n (linesOf (drop i t))) in
@@ -105,7 +107,7 @@ module _ (t old : List ℕ) {x : Quadruple} (a b c d i n p : ℕ) (e : asFour x 
     entries-long : length (column 1 rows) ≡ n
     entries-long = length-column 1 rows ∙ sym rows-are
 
-    pub table-short : length old < n → (Short ≡ tableAnswer (savedIn t) (length old)) × (old ≡ tableWritten (savedIn t) old)
+    pub table-short : length old < n → (refusal Room 0 ≡ tableAnswer (savedIn t) (length old)) × (old ≡ tableWritten (savedIn t) old)
     unfolding tableAnswer tableWritten
     table-short g = rw (all-entries, entries-long, lt-ltb _ _ g) (refl, refl)
 
@@ -113,6 +115,6 @@ module _ (t old : List ℕ) {x : Quadruple} (a b c d i n p : ℕ) (e : asFour x 
       pub parts-room : length rows ≤ length old
       parts-room = omega (arith, rows-are)
 
-      pub table-read : {now : List ℕ} → now ≡ over (column 1 rows) old → (Entries a b c d n ≡ tableAnswer (savedIn t) (length old)) × (now ≡ tableWritten (savedIn t) old)
+      pub table-read : {now : List ℕ} → now ≡ over (column 1 rows) old → (answered Passed (a ∷ b ∷ c ∷ d ∷ n ∷ []) ≡ tableAnswer (savedIn t) (length old)) × (now ≡ tableWritten (savedIn t) old)
       unfolding tableAnswer tableWritten
       table-read q = rw (all-entries, entries-long, le-ltb _ _ g) (refl, q)

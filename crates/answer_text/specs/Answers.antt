@@ -5,9 +5,11 @@ use mathlib.Core.List.{List, [], _∷_, _++_}
 use lib.Dec.{ltb}
 use lib.ListN.{length}
 use Rattle.folds.specs.Fold.{pick, over}
-use Rattle.line_forms.specs.Form.{Form, printed, printedAll, needs, needsAll}
+use Rattle.line_forms.specs.Form.{Form, printed, printedAll}
 use Rattle.answer_text.specs.Forms.{splitForm, entryForm, blockWord, startWord, inspectedForm, refusedForm}
-use Rattle.line_forms.specs.Answer.{Answer, accepted, refused}
+use Rattle.validity.specs.Cause.{Answer, refusal, told}
+use Rattle.validity.specs.declared.Cause.the-variants as cause
+use Rattle.validity.specs.declared.Verdict.the-variants.{Passed}
 use Rattle.answer_text.specs.declared.Written.{Written}
 use Rattle.answer_text.specs.declared.Written.the-variants.{Bytes, Short}
 use Rattle.answer_text.specs.declared.Room.{Room}
@@ -22,43 +24,30 @@ enumerated n (s ∷ entries) = (n ∷ s ∷ []) ∷ enumerated (suc n) entries
 unfoldable pub tableText : Form → List ℕ → List ℕ → List ℕ → List ℕ
 tableText head vs word entries = printed head vs ++ printedAll (entryForm word) (enumerated 0 entries)
 
-unfoldable pub tableNeeds : Form → List ℕ → List ℕ → List ℕ → ℕ
-tableNeeds head vs word entries = needs head vs + needsAll (entryForm word) (enumerated 0 entries)
-
 -- what the splitting program prints: the cut, rounds kept, rung cut and moves, then each block's stage
 abbrev pub splitText : ℕ → ℕ → ℕ → ℕ → List ℕ → List ℕ
 splitText cut rungs cutat moves parts = tableText splitForm (cut ∷ rungs ∷ cutat ∷ moves ∷ []) blockWord parts
-
--- and the bytes that it takes
-abbrev pub splitNeeds : ℕ → ℕ → ℕ → ℕ → List ℕ → ℕ
-splitNeeds cut rungs cutat moves parts = tableNeeds splitForm (cut ∷ rungs ∷ cutat ∷ moves ∷ []) blockWord parts
 
 -- what the inspecting program prints: the cut, then the stage at each place of the start order
 abbrev pub orderText : ℕ → List ℕ → List ℕ
 orderText cut order = tableText inspectedForm (cut ∷ []) startWord order
 
-abbrev pub orderNeeds : ℕ → List ℕ → ℕ
-orderNeeds cut order = tableNeeds inspectedForm (cut ∷ []) startWord order
-
 -- the refusal line
 abbrev pub refusalText : ℕ → ℕ → List ℕ
 refusalText number place = printed refusedForm (number ∷ place ∷ [])
 
-abbrev pub refusalNeeds : ℕ → ℕ → ℕ
-refusalNeeds number place = needs refusedForm (number ∷ place ∷ [])
-
--- writing a text that takes that many bytes: its length, or 4, place 0
-unfoldable pub writing : ℕ → List ℕ → Answer ℕ
-writing need buf = pick (ltb (length buf) need) (refused 4 0) (accepted need)
+-- writing a text: its length, or 4 where the buffer is shorter
+unfoldable pub writing : List ℕ → List ℕ → Answer
+writing text buf = pick (ltb (length buf) (length text)) (refusal cause.Room 0) (told Passed (length text ∷ []))
 
 -- the buffer afterwards: with the text over its front, or as it was
-unfoldable pub written : ℕ → List ℕ → List ℕ → List ℕ
-written need text buf = pick (ltb (length buf) need) buf (over text buf)
+unfoldable pub written : List ℕ → List ℕ → List ℕ
+written text buf = pick (ltb (length buf) (length text)) buf (over text buf)
 
--- document 01's number and place, or the length, of each answer
-abbrev pub outcome : Written → Answer ℕ
-outcome (Bytes n) = accepted n
-outcome Short = refused 4 0
+-- document 01's number and values of each case
+abbrev pub outcome : Written → Answer
+outcome (Bytes n) = told Passed (n ∷ [])
+outcome Short = refusal cause.Room 0
 
 -- whether lines that take `need` bytes fit, and what they leave
 abbrev pub RoomIs : ℕ → ℕ → Room → Type 0

@@ -2,15 +2,18 @@
 use Prim.Native.Nat.{ℕ, zero, suc, _+_, _≤_}
 use mathlib.Core.Path.{_≡_}
 use mathlib.Core.Bool.{Bool, true, _&&_}
-use mathlib.Core.List.{List, [], _∷_}
+use mathlib.Core.List.{List, [], _∷_, _++_}
 use mathlib.Core.Option.{some, none}
 use lib.Dec.{ltb}
-use lib.ListN.{length, getD}
+use lib.ListN.{length}
 use Rattle.folds.specs.Fold.{pick, over}
 use Rattle.line_forms.specs.Form.{fits, asForm}
 use Rattle.line_forms.specs.Lines.{linesOf, leading, inOrder, column}
 use Rattle.answer_text.specs.Forms.{splitForm, entryForm, blockWord}
 use Rattle.line_forms.specs.Stand.{Low, lineAt, said, isOf}
+use Rattle.validity.specs.Cause.{Answer, refusal, told}
+use Rattle.validity.specs.declared.Cause.the-variants.{Room, Line}
+use Rattle.validity.specs.declared.Verdict.the-variants.{Passed}
 use Rattle.answer_text.specs.declared.tables.Table.{Table}
 use Rattle.answer_text.specs.declared.tables.Table.the-variants.{Entries, BadLine, Short}
 
@@ -34,11 +37,16 @@ savedLines (l ∷ ls) = elim (asForm splitForm l) [ some head ↦ savedAfter hea
 unfoldable pub savedIn : List ℕ → Saved
 savedIn t = savedLines (linesOf t)
 
--- the answer of the reading call, with the length of the list that it writes
-unfoldable pub tableAnswer : Saved → ℕ → Table
-tableAnswer (badLine p) room = BadLine p
-tableAnswer (saved head entries) room =
-    pick (ltb room (length entries)) Short (Entries (getD head 0 0) (getD head 1 0) (getD head 2 0) (getD head 3 0) (length entries))
+-- the answer of the reading call, with the length of the list that it writes: 15 at the line, 4, or the figures and the number of entries
+unfoldable pub tableAnswer : Saved → ℕ → Answer
+tableAnswer (badLine p) room = refusal Line p
+tableAnswer (saved head entries) room = pick (ltb room (length entries)) (refusal Room 0) (told Passed (head ++ (length entries ∷ [])))
+
+-- document 01's number and values of each case
+abbrev pub answerOf : Table → Answer
+answerOf (Entries cut rungs cutat moves entries) = told Passed (cut ∷ rungs ∷ cutat ∷ moves ∷ entries ∷ [])
+answerOf (BadLine line) = refusal Line line
+answerOf Short = refusal Room 0
 
 -- the list afterwards: with the entries over its front, or as it was
 unfoldable pub tableWritten : Saved → List ℕ → List ℕ

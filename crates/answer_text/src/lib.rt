@@ -6,7 +6,7 @@ ghost use lib.ListN.{length};
 ghost use Rattle.line_forms.specs.Form.{printed, printedAll, needs, needsAll};
 ghost use Rattle.decimal.specs.Write.{Puts};
 ghost use Rattle.answer_text.specs.Forms.{splitForm, entryForm, inspectedForm, refusedForm};
-ghost use Rattle.answer_text.specs.Answers.{enumerated, splitText, splitNeeds, orderText, orderNeeds, refusalText, refusalNeeds, writing, written, outcome, RoomIs};
+ghost use Rattle.answer_text.specs.Answers.{enumerated, splitText, orderText, refusalText, writing, written, outcome, RoomIs};
 
 pub mod tables;
 
@@ -122,8 +122,8 @@ pub fn write_split(
     moves: usize,
     parts: &[u16],
 ) -> Written
-    ensures { λ r. ⌜ outcome r ≡ writing (splitNeeds cut rungs cutat moves (now (parts .entry))) (now (buf .entry)) ⌝ }
-    ensures { λ _. ⌜ now (buf .exit) ≡ written (splitNeeds cut rungs cutat moves (now (parts .entry))) (splitText cut rungs cutat moves (now (parts .entry))) (now (buf .entry)) ⌝ }
+    ensures { λ r. ⌜ outcome r ≡ writing (splitText cut rungs cutat moves (now (parts .entry))) (now (buf .entry)) ⌝ }
+    ensures { λ _. ⌜ now (buf .exit) ≡ written (splitText cut rungs cutat moves (now (parts .entry))) (now (buf .entry)) ⌝ }
 {
     let head = split_length(cut, rungs, cutat, moves);
     if table_over(buf.len(), head, b"(block ", parts) {
@@ -148,8 +148,8 @@ fn put_inspected(buf: &mut [u8], cut: usize) -> usize
 
 // The lines of a start order that inspection gives.
 pub fn write_order(buf: &mut [u8], cut: usize, order: &[u16]) -> Written
-    ensures { λ r. ⌜ outcome r ≡ writing (orderNeeds cut (now (order .entry))) (now (buf .entry)) ⌝ }
-    ensures { λ _. ⌜ now (buf .exit) ≡ written (orderNeeds cut (now (order .entry))) (orderText cut (now (order .entry))) (now (buf .entry)) ⌝ }
+    ensures { λ r. ⌜ outcome r ≡ writing (orderText cut (now (order .entry))) (now (buf .entry)) ⌝ }
+    ensures { λ _. ⌜ now (buf .exit) ≡ written (orderText cut (now (order .entry))) (now (buf .entry)) ⌝ }
 {
     let head = order_length(cut);
     if table_over(buf.len(), head, b"(start ", order) {
@@ -184,8 +184,8 @@ fn put_refusal(buf: &mut [u8], number: usize, place: usize) -> usize
 
 // The refusal line.
 pub fn write_refusal(buf: &mut [u8], number: usize, place: usize) -> Written
-    ensures { λ r. ⌜ outcome r ≡ writing (refusalNeeds number place) (now (buf .entry)) ⌝ }
-    ensures { λ _. ⌜ now (buf .exit) ≡ written (refusalNeeds number place) (refusalText number place) (now (buf .entry)) ⌝ }
+    ensures { λ r. ⌜ outcome r ≡ writing (refusalText number place) (now (buf .entry)) ⌝ }
+    ensures { λ _. ⌜ now (buf .exit) ≡ written (refusalText number place) (now (buf .entry)) ⌝ }
 {
     if buf.len() < refusal_length(number, place) {
         return Written::Short;

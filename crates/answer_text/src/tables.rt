@@ -5,14 +5,14 @@ ghost use Rattle.folds.specs.Fold.{over};
 ghost use Rattle.line_forms.specs.Lines.{Ran, inOrder, column, linesOf};
 ghost use Rattle.line_forms.specs.Read.{readForm, ifNumbered, asTwo, asFour};
 ghost use Rattle.answer_text.specs.Forms.{splitForm, entryForm, blockWord};
-ghost use Rattle.answer_text.specs.Tables.{entryRows, savedIn, tableAnswer, tableWritten};
+ghost use Rattle.answer_text.specs.Tables.{entryRows, savedIn, tableAnswer, answerOf, tableWritten};
 use line_forms::Pair;
 use line_forms::Quadruple;
 use line_forms::Run;
 
 // The reader of stage tables as the splitting program prints them.
 
-// The figures of the split line and the number of entries; the line that is not of the form; or a list too short.
+// The figures of the split line and the number of entries; 15, the line that is not of the form; or 4, a list too short.
 pub enum Table {
     Entries(u32, u32, u32, u32, usize),
     BadLine(usize),
@@ -86,7 +86,7 @@ fn write_parts(text: &[u8], at: usize, parts: &mut [u16])
 
 // Reads a saved table into a list, or leaves it alone.
 pub fn read_table(text: &[u8], parts: &mut [u16]) -> Table
-    ensures { λ r. ⌜ r ≡ tableAnswer (savedIn (now (text .entry))) (length (now (parts .entry))) ⌝ }
+    ensures { λ r. ⌜ answerOf r ≡ tableAnswer (savedIn (now (text .entry))) (length (now (parts .entry))) ⌝ }
     ensures { λ _. ⌜ now (parts .exit) ≡ tableWritten (savedIn (now (text .entry))) (now (parts .entry)) ⌝ }
 {
     let Quadruple::Are(a, b, c, d, i) = split_line(text, 0) else {

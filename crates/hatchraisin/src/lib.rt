@@ -4,7 +4,7 @@ ghost use Rattle.graph.specs.Graph.{graphOf};
 ghost use Rattle.partition.specs.Split as split;
 ghost use Rattle.inspection.specs.Inspect as inspect;
 ghost use Rattle.kit_text.specs.Reading.{lists, readingOf, written, figures, outcome};
-ghost use Rattle.hatchraisin.specs.Told.{fourCells, oneCell, toldOf};
+ghost use Rattle.hatchraisin.specs.Told.{fourCells, oneCell};
 use inspection::Inspected;
 use kit_text::Reading;
 use partition::Partitioned;
@@ -45,8 +45,8 @@ fn tell_inspect(told: Inspected, answer: &mut [usize; 1]) -> u32
 
 // The reading's values into the cells; its number.
 fn tell_read(told: Reading, answer: &mut [usize; 4]) -> u32
-    ensures { λ r. ⌜ r ≡ toldOf (outcome told) .number ⌝ }
-    ensures { λ _. ⌜ now (answer .exit) ≡ fourCells (toldOf (outcome told)) ⌝ }
+    ensures { λ r. ⌜ r ≡ outcome told .number ⌝ }
+    ensures { λ _. ⌜ now (answer .exit) ≡ fourCells (outcome told) ⌝ }
 {
     match told {
         Reading::Refused(fault, place) => {
@@ -117,8 +117,8 @@ pub extern "C" fn hatch_read(
     widths: &mut [u16],
     answer: &mut [usize; 4],
 ) -> u32
-    ensures { λ r. ⌜ r ≡ toldOf (figures (readingOf (now (text .entry)) (lists (now (costs .entry)) (now (starts .entry)) (now (ends .entry)) (now (widths .entry))))) .number ⌝ }
-    ensures { λ _. ⌜ now (answer .exit) ≡ fourCells (toldOf (figures (readingOf (now (text .entry)) (lists (now (costs .entry)) (now (starts .entry)) (now (ends .entry)) (now (widths .entry)))))) ⌝ }
+    ensures { λ r. ⌜ r ≡ figures (readingOf (now (text .entry)) (lists (now (costs .entry)) (now (starts .entry)) (now (ends .entry)) (now (widths .entry)))) .number ⌝ }
+    ensures { λ _. ⌜ now (answer .exit) ≡ fourCells (figures (readingOf (now (text .entry)) (lists (now (costs .entry)) (now (starts .entry)) (now (ends .entry)) (now (widths .entry))))) ⌝ }
     ensures { λ _. ⌜ lists (now (costs .exit)) (now (starts .exit)) (now (ends .exit)) (now (widths .exit)) ≡ written (readingOf (now (text .entry)) (lists (now (costs .entry)) (now (starts .entry)) (now (ends .entry)) (now (widths .entry)))) (lists (now (costs .entry)) (now (starts .entry)) (now (ends .entry)) (now (widths .entry))) ⌝ }
 {
     tell_read(
