@@ -3,6 +3,7 @@
 use line_forms::Triple;
 
 pub mod front;
+pub mod lines;
 pub mod words;
 mod search;
 
@@ -13,9 +14,10 @@ use words::add_line;
 use words::entry;
 use words::plus;
 
+// Refusal 15: the line, which of its causes it was, what was expected there, and the line itself.
 fn of_line(buf: &mut [u8], text: &[u8], line: usize) -> usize {
     let i = add_both(buf, 0, b"line ", line);
-    let j = add(buf, i, b" is not of its form, is out of order or is one too many: ");
+    let j = lines::add_cause(buf, i, text, line);
     let k = add_line(buf, j, text, line);
     add(buf, k, b"\n")
 }
@@ -30,10 +32,10 @@ fn of_counts(buf: &mut [u8], text: &[u8]) -> usize {
     add(buf, k, b" block lines\n")
 }
 
-// A line of a saved table that is not of the form.
+// The same of a saved table; the words follow the name of its file.
 pub fn of_saved(buf: &mut [u8], text: &[u8], line: usize) -> usize {
     let i = add_both(buf, 0, b", line ", line);
-    let j = add(buf, i, b": not a line of a table as split prints it: ");
+    let j = lines::add_saved_cause(buf, i, text, line);
     let k = add_line(buf, j, text, line);
     add(buf, k, b"\n")
 }
@@ -164,8 +166,8 @@ fn of_over(buf: &mut [u8], part: usize, cost: usize, bound: u32) -> usize {
 
 // Entries that lie past a list stay 0 in both, and an edge from a part to itself is on no cycle.
 fn of_part_cycle(buf: &mut [u8], part: usize, starts: &[u16], ends: &[u16], parts: &[u16]) -> usize {
-    let mut from = [0u16; 1024];
-    let mut to = [0u16; 1024];
+    let mut from = search::edges();
+    let mut to = search::edges();
     search::through(parts, starts, &mut from);
     search::through(parts, ends, &mut to);
     of_cycle(buf, part, b"the stages form a loop: stage ", &from, &to)

@@ -93,9 +93,17 @@ fn add_way(buf: &mut [u8], at: usize, v: u16, next: &[u16]) -> usize {
     k
 }
 
+fn no_ways() -> [u16; 512] {
+    [65535; 512]
+}
+
+pub fn edges() -> [u16; 1024] {
+    [0; 1024]
+}
+
 // The vertices of a cycle through v, with v at both ends.
 pub fn add_cycle(buf: &mut [u8], at: usize, v: usize, starts: &[u16], ends: &[u16]) -> usize {
-    let mut next = [65535u16; 512];
+    let mut next = no_ways();
     let w = narrow(v);
     lead_all(starts, ends, w, &mut next);
     let i = add_way(buf, at, w, &next);

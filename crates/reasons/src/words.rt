@@ -63,7 +63,7 @@ fn passed(left: usize, b: u8) -> usize {
 }
 
 // Where a line begins.
-fn start_of(text: &[u8], line: usize) -> usize {
+pub fn start_of(text: &[u8], line: usize) -> usize {
     let mut left = line;
     let mut i: usize = 0;
     while i < text.len() {

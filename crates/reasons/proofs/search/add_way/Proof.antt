@@ -1,3 +1,4 @@
+-- Safe and ending: at most 512 hops.
 use mathlib.Core.Path.{_≡_}
 use borrow.Author.Needs.{needs}
 use native.Mathlib.Omega.{arith}

@@ -1,3 +1,4 @@
+-- Safe and ending: 512 passes.
 use Prim.Native.Nat.{_-_}
 use mathlib.Core.Path.{_≡_}
 use borrow.Author.Needs.{needs}
