@@ -33,12 +33,13 @@ fn refuse_table(
     console::explain(b"inspect", reasons::front::bytes(&buf, n));
 }
 
+// A table text that is not of its form is 15 at its line, as a kit text is.
 fn refuse_saved(name: &[u8], saved: &[u8], line: usize) {
     let mut buf = [0u8; 1024];
+    console::say_refusal(b"inspect", 15, line);
     let n = reasons::of_saved(&mut buf, saved, line);
     console::say(b"inspect: ");
-    console::say(name);
-    console::say(reasons::front::bytes(&buf, n));
+    console::explain(name, reasons::front::bytes(&buf, n));
 }
 
 fn pass(cut: u32, saved: u32, order: &[u16]) {
@@ -68,6 +69,27 @@ fn inspect(
     }
 }
 
+// The saved table, once the kit has been read.
+fn inspect_saved(
+    costs: &[u16],
+    starts: &[u16],
+    ends: &[u16],
+    widths: &[u16],
+    k: usize,
+    bound: u32,
+    name: &[u8],
+    saved: &[u8],
+) {
+    let mut parts = [0u16; 512];
+    match answer_text::tables::read_table(saved, &mut parts) {
+        Table::Entries(cut, _, _, _, n) => {
+            inspect(costs, starts, ends, widths, k, bound, reasons::front::numbers(&parts, n), cut);
+        }
+        Table::BadLine(line) => refuse_saved(name, saved, line),
+        Table::Short => console::say(b"inspect: the table does not fit its list\n"),
+    }
+}
+
 // The lists of a kit that was read, at their own lengths.
 fn inspect_lists(
     r: Reading,
@@ -76,36 +98,28 @@ fn inspect_lists(
     starts: &[u16],
     ends: &[u16],
     widths: &[u16],
-    parts: &[u16],
-    saved: u32,
+    name: &[u8],
+    saved: &[u8],
 ) {
     match r {
         Reading::Kit(n, m, k, bound) => {
             let s = reasons::front::numbers(starts, m);
             let e = reasons::front::numbers(ends, m);
             let w = reasons::front::numbers(widths, m);
-            inspect(reasons::front::numbers(costs, n), s, e, w, line_forms::size(k), bound, parts, saved);
+            inspect_saved(reasons::front::numbers(costs, n), s, e, w, line_forms::size(k), bound, name, saved);
         }
         Reading::Refused(fault, line) => console::refuse_text(b"inspect", text, validity::number(fault) as usize, line),
     }
 }
 
-fn run(text: &[u8], parts: &[u16], saved: u32) {
+// The kit first: a kit text that is refused leaves the table unread.
+fn run(text: &[u8], name: &[u8], saved: &[u8]) {
     let mut costs = [0u16; 512];
     let mut starts = [0u16; 1024];
     let mut ends = [0u16; 1024];
     let mut widths = [0u16; 1024];
     let r = kit_text::read_kit(text, &mut costs, &mut starts, &mut ends, &mut widths);
-    inspect_lists(r, text, &costs, &starts, &ends, &widths, parts, saved);
-}
-
-fn run_saved(text: &[u8], name: &[u8], saved: &[u8]) {
-    let mut parts = [0u16; 512];
-    match answer_text::tables::read_table(saved, &mut parts) {
-        Table::Entries(cut, _, _, _, n) => run(text, reasons::front::numbers(&parts, n), cut),
-        Table::BadLine(line) => refuse_saved(name, saved, line),
-        Table::Short => console::say(b"inspect: the table does not fit its list\n"),
-    }
+    inspect_lists(r, text, &costs, &starts, &ends, &widths, name, saved);
 }
 
 fn open_failed(name: &[u8]) {
@@ -137,7 +151,7 @@ fn run_second(text: &[u8], name: &[u8]) {
     let Input::Bytes(n) = read_file(name, &mut space) else {
         return;
     };
-    run_saved(text, name, reasons::front::bytes(&space, n));
+    run(text, name, reasons::front::bytes(&space, n));
 }
 
 fn run_files(first: &[u8], second: &[u8]) {

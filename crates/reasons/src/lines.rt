@@ -1,12 +1,12 @@
-// Why a line is refused with 15: it breaks its form, is out of order or is one too many; and what was expected there.
+// Why a line is refused with 15: it breaks its form, is out of order or is one too many; and what was expected there. The
+// sentences are those of `say_text` and `say_saved`.
 ghost use Prim.Native.Nat.{_<_, _≤_};
-use crate::words::add;
-use crate::words::add_both;
+use crate::words::Sentence;
+use crate::words::end_of;
 use crate::words::plus;
+use crate::words::told;
 use crate::words::start_of;
 use decimal::Number;
-use line_forms::Pair;
-use line_forms::Triple;
 
 fn past_number(text: &[u8], at: usize, most: u32) -> usize
     requires { ⌜ (9 ≤ most) × (most < 100000000) ⌝ }
@@ -34,7 +34,7 @@ fn past_byte(text: &[u8], at: usize, b: u8) -> usize {
     at + 1
 }
 
-// How far a text follows a form from a place on.
+// How far a text follows a form from a place on: past the line's end where the line is of the form.
 fn followed(text: &[u8], at: usize, form: &[u8]) -> usize {
     let mut i = at;
     let mut k: usize = 0;
@@ -49,19 +49,23 @@ fn followed(text: &[u8], at: usize, form: &[u8]) -> usize {
     i
 }
 
-fn further(a: usize, b: usize) -> usize {
-    if a < b {
-        return b;
-    }
-    a
+fn past_head(text: &[u8], from: usize) -> usize {
+    followed(text, from, b"(kit (blocks #) (stages #) (limit @))\n")
+}
+
+fn past_block(text: &[u8], from: usize) -> usize {
+    followed(text, from, b"(block (cost #))\n")
 }
 
 fn past_wire(text: &[u8], from: usize) -> usize {
     followed(text, from, b"(wire (from #) (to #) (width #))\n")
 }
 
-fn past_block(text: &[u8], from: usize) -> usize {
-    followed(text, from, b"(block (cost #))\n")
+fn further(a: usize, b: usize) -> usize {
+    if a < b {
+        return b;
+    }
+    a
 }
 
 // The column, from 1, of a place in the line that begins at another.
@@ -72,96 +76,6 @@ fn column(from: usize, at: usize) -> usize {
     plus(at - from, 1)
 }
 
-fn is_block(text: &[u8], from: usize) -> bool {
-    if let Number::Is(_, _) = kit_lines::block_line(text, from) {
-        return true;
-    }
-    false
-}
-
-fn is_wire(text: &[u8], from: usize) -> bool {
-    if let Triple::Are(_, _, _, _) = kit_lines::wire_line(text, from) {
-        return true;
-    }
-    false
-}
-
-fn is_head(text: &[u8], from: usize) -> bool {
-    if let Triple::Are(_, _, _, _) = kit_lines::kit_line(text, from) {
-        return true;
-    }
-    false
-}
-
-fn expect_head(buf: &mut [u8], at: usize) -> usize {
-    add(buf, at, b"expected here is (kit (blocks N) (stages N) (limit N)): ")
-}
-
-fn expect_wire(buf: &mut [u8], at: usize) -> usize {
-    add(buf, at, b"expected here is (wire (from N) (to N) (width N)): ")
-}
-
-fn expect_either(buf: &mut [u8], at: usize) -> usize {
-    add(buf, at, b"expected here is (block (cost N)) or (wire (from N) (to N) (width N)): ")
-}
-
-fn expect_end(buf: &mut [u8], at: usize) -> usize {
-    add(buf, at, b"expected here is the end of the text: ")
-}
-
-fn add_column(buf: &mut [u8], at: usize, from: usize, broken: usize) -> usize {
-    let i = add_both(buf, at, b", column ", column(from, broken));
-    add(buf, i, b": the form breaks; ")
-}
-
-// The first line.
-fn add_first(buf: &mut [u8], at: usize, text: &[u8]) -> usize {
-    if is_block(text, 0) {
-        let i = add(buf, at, b": a block line, out of order; ");
-        return expect_head(buf, i);
-    }
-    if is_wire(text, 0) {
-        let i = add(buf, at, b": a wire line, out of order; ");
-        return expect_head(buf, i);
-    }
-    let broken = followed(text, 0, b"(kit (blocks #) (stages #) (limit @))\n");
-    let i = add_column(buf, at, 0, broken);
-    expect_head(buf, i)
-}
-
-// A line after wire lines.
-fn add_after_wire(buf: &mut [u8], at: usize, text: &[u8], from: usize) -> usize {
-    if is_block(text, from) {
-        let i = add(buf, at, b": a block line after a wire line, out of order; ");
-        return expect_wire(buf, i);
-    }
-    if is_wire(text, from) {
-        let i = add(buf, at, b": the 1,025th wire line, one too many; ");
-        return expect_end(buf, i);
-    }
-    if is_head(text, from) {
-        let i = add(buf, at, b": a second kit line, out of order; ");
-        return expect_wire(buf, i);
-    }
-    let i = add_column(buf, at, from, past_wire(text, from));
-    expect_wire(buf, i)
-}
-
-// A line after the kit line and block lines.
-fn add_after_block(buf: &mut [u8], at: usize, text: &[u8], from: usize) -> usize {
-    if is_block(text, from) {
-        let i = add(buf, at, b": the 513th block line, one too many; ");
-        return expect_wire(buf, i);
-    }
-    if is_head(text, from) {
-        let i = add(buf, at, b": a second kit line, out of order; ");
-        return expect_either(buf, i);
-    }
-    let broken = further(past_block(text, from), past_wire(text, from));
-    let i = add_column(buf, at, from, broken);
-    expect_either(buf, i)
-}
-
 fn before(line: usize) -> usize {
     if line == 0 {
         return 0;
@@ -169,53 +83,77 @@ fn before(line: usize) -> usize {
     line - 1
 }
 
-pub fn add_cause(buf: &mut [u8], at: usize, text: &[u8], line: usize) -> usize {
+fn of_first(end: usize, head: usize, block: usize, wire: usize) -> Sentence {
+    if block > end {
+        return told(4, 0, 0, 0, 0);
+    }
+    if wire > end {
+        return told(5, 0, 0, 0, 0);
+    }
+    told(6, column(0, head), 0, 0, 0)
+}
+
+fn of_after_wire(line: usize, from: usize, end: usize, head: usize, block: usize, wire: usize) -> Sentence {
+    if block > end {
+        return told(7, line, 0, 0, 0);
+    }
+    if wire > end {
+        return told(8, line, 0, 0, 0);
+    }
+    if head > end {
+        return told(9, line, 0, 0, 0);
+    }
+    told(10, line, column(from, wire), 0, 0)
+}
+
+fn of_after_block(line: usize, from: usize, end: usize, head: usize, block: usize, wire: usize) -> Sentence {
+    if block > end {
+        return told(11, line, 0, 0, 0);
+    }
+    if head > end {
+        return told(12, line, 0, 0, 0);
+    }
+    told(13, line, column(from, further(block, wire)), 0, 0)
+}
+
+fn is_wire(text: &[u8], from: usize) -> bool {
+    past_wire(text, from) > end_of(text, from)
+}
+
+// A line of a kit text.
+pub fn of_line(text: &[u8], line: usize) -> Sentence {
+    let from = start_of(text, line);
+    let end = end_of(text, from);
+    let head = past_head(text, from);
+    let block = past_block(text, from);
+    let wire = past_wire(text, from);
     if line < 2 {
-        return add_first(buf, at, text);
+        return of_first(end, head, block, wire);
+    }
+    if is_wire(text, start_of(text, before(line))) {
+        return of_after_wire(line, from, end, head, block, wire);
+    }
+    of_after_block(line, from, end, head, block, wire)
+}
+
+// The line of entry n of a table.
+fn of_entry(line: usize, from: usize, end: usize, past: usize, n: usize) -> Sentence {
+    if n > 511 {
+        return told(2, line, 0, 0, 0);
+    }
+    if past > end {
+        return told(3, line, n, 0, 0);
+    }
+    told(4, line, column(from, past), n, 0)
+}
+
+// A line of a table's text.
+pub fn of_saved(text: &[u8], line: usize) -> Sentence {
+    if line < 2 {
+        let broken = followed(text, 0, b"(split (cut @) (rungs @) (cutat @) (moves @))\n");
+        return told(1, column(0, broken), 0, 0, 0);
     }
     let from = start_of(text, line);
-    if is_wire(text, start_of(text, before(line))) {
-        return add_after_wire(buf, at, text, from);
-    }
-    add_after_block(buf, at, text, from)
-}
-
-fn is_entry(text: &[u8], from: usize) -> bool {
-    if let Pair::Are(_, _, _) = line_forms::two(text, from, b"(block ", 65535, b" (stage ", 65535, b"))\n") {
-        return true;
-    }
-    false
-}
-
-fn expect_entry(buf: &mut [u8], at: usize, n: usize) -> usize {
-    let i = add_both(buf, at, b"expected here is (block ", n);
-    add(buf, i, b" (stage N)): ")
-}
-
-fn add_split_line(buf: &mut [u8], at: usize, text: &[u8]) -> usize {
-    let broken = followed(text, 0, b"(split (cut @) (rungs @) (cutat @) (moves @))\n");
-    let i = add_column(buf, at, 0, broken);
-    add(buf, i, b"expected here is (split (cut N) (rungs N) (cutat N) (moves N)): ")
-}
-
-// The line of entry n.
-fn add_entry(buf: &mut [u8], at: usize, text: &[u8], from: usize, n: usize) -> usize {
-    if n > 511 {
-        let i = add(buf, at, b": a line past the 512th entry, one too many; ");
-        return expect_end(buf, i);
-    }
-    if is_entry(text, from) {
-        let i = add(buf, at, b": another block's line, out of order; ");
-        return expect_entry(buf, i, n);
-    }
-    let broken = followed(text, from, b"(block # (stage #))\n");
-    let i = add_column(buf, at, from, broken);
-    expect_entry(buf, i, n)
-}
-
-pub fn add_saved_cause(buf: &mut [u8], at: usize, text: &[u8], line: usize) -> usize {
-    if line < 2 {
-        return add_split_line(buf, at, text);
-    }
-    add_entry(buf, at, text, start_of(text, line), before(before(line)))
+    let past = followed(text, from, b"(block # (stage #))\n");
+    of_entry(line, from, end_of(text, from), past, before(before(line)))
 }

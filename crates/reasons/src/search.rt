@@ -1,8 +1,9 @@
 // What the words name beside the place of a refusal: an earlier equal edge, the vertices of a cycle, a part's cost.
-use crate::words::add;
 use crate::words::add_number;
+use crate::words::add_sentence;
 use crate::words::entry;
 use crate::words::plus;
+use crate::words::told;
 
 fn same(starts: &[u16], ends: &[u16], i: usize, j: usize) -> bool {
     if entry(starts, i) != entry(starts, j) {
@@ -73,8 +74,7 @@ fn lead_all(starts: &[u16], ends: &[u16], v: u16, next: &mut [u16]) {
 }
 
 fn add_hop(buf: &mut [u8], at: usize, v: u16) -> usize {
-    let i = add_number(buf, at, folds::wide(v));
-    add(buf, i, b" to ")
+    add_sentence(buf, at, b"% to \n", told(1, folds::wide(v), 0, 0, 0))
 }
 
 // From v along `next` until it is v again.

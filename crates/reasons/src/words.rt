@@ -1,4 +1,18 @@
-// Words and numbers added to a buffer from a place on; each function returns the place past them.
+// Sentences from a table of words, numbers and bytes of a text, put into a buffer from a place on; each function returns the
+// place past them, and what finds no room is left out.
+
+// A sentence: its line in a table of words, from 1, and the numbers that stand for the % in it, in order.
+pub struct Sentence {
+    pub line: usize,
+    pub a: usize,
+    pub b: usize,
+    pub c: usize,
+    pub d: usize,
+}
+
+pub fn told(line: usize, a: usize, b: usize, c: usize, d: usize) -> Sentence {
+    Sentence { line, a, b, c, d }
+}
 
 pub fn plus(a: usize, b: usize) -> usize {
     if a > 1_000_000_000 {
@@ -18,15 +32,16 @@ pub fn entry(list: &[u16], i: usize) -> u16 {
     65535
 }
 
-// Adds a word, if there is room for it.
-pub fn add(buf: &mut [u8], at: usize, word: &[u8]) -> usize {
-    if at > buf.len() {
+fn put(buf: &mut [u8], at: usize, b: u8) -> usize {
+    if at >= buf.len() {
         return at;
     }
-    if word.len() > buf.len() - at {
-        return at;
-    }
-    decimal::copy(buf, at, word)
+    buf[at] = b;
+    at + 1
+}
+
+pub fn add_newline(buf: &mut [u8], at: usize) -> usize {
+    put(buf, at, 10)
 }
 
 pub fn add_number(buf: &mut [u8], at: usize, v: usize) -> usize {
@@ -40,16 +55,50 @@ pub fn add_number(buf: &mut [u8], at: usize, v: usize) -> usize {
     decimal::show(buf, at, v)
 }
 
-pub fn add_both(buf: &mut [u8], at: usize, word: &[u8], v: usize) -> usize {
-    let i = add(buf, at, word);
-    add_number(buf, i, v)
+fn shown(b: u8) -> u8 {
+    if b < 32 {
+        return b'?';
+    }
+    if b > 126 {
+        return b'?';
+    }
+    b
 }
 
-// A vertex or an edge, with its text line.
-pub fn add_item(buf: &mut [u8], at: usize, word: &[u8], v: usize, line: usize) -> usize {
-    let i = add_both(buf, at, word, v);
-    let j = add_both(buf, i, b" (line ", line);
-    add(buf, j, b")")
+// A byte of a table of words: a number for %.
+fn add_mark(buf: &mut [u8], at: usize, b: u8, v: usize) -> usize {
+    if b == b'%' {
+        return add_number(buf, at, v);
+    }
+    put(buf, at, b)
+}
+
+fn after(b: u8, v: usize, next: usize) -> usize {
+    if b == b'%' {
+        return next;
+    }
+    v
+}
+
+pub fn add_sentence(buf: &mut [u8], at: usize, table: &[u8], s: Sentence) -> usize {
+    let mut k = start_of(table, s.line);
+    let mut i = at;
+    let mut a = s.a;
+    let mut b = s.b;
+    let mut c = s.c;
+    let d = s.d;
+    while k < table.len() {
+        let w = table[k];
+        if w == 10 {
+            return i;
+        }
+        i = add_mark(buf, i, w, a);
+        a = after(w, a, b);
+        b = after(w, b, c);
+        c = after(w, c, d);
+        k += 1;
+    }
+    i
 }
 
 fn passed(left: usize, b: u8) -> usize {
@@ -77,7 +126,7 @@ pub fn start_of(text: &[u8], line: usize) -> usize {
 }
 
 // Where the line that begins at a place ends.
-fn end_of(text: &[u8], from: usize) -> usize {
+pub fn end_of(text: &[u8], from: usize) -> usize {
     let mut i = from;
     while i < text.len() {
         if text[i] == 10 {
@@ -88,20 +137,6 @@ fn end_of(text: &[u8], from: usize) -> usize {
     i
 }
 
-fn shown(b: u8) -> u8 {
-    if b < 32 {
-        return b'?';
-    }
-    if b > 126 {
-        return b'?';
-    }
-    b
-}
-
-fn add_byte(buf: &mut [u8], at: usize, b: u8) -> usize {
-    add(buf, at, &[shown(b)])
-}
-
 fn add_bytes(buf: &mut [u8], at: usize, text: &[u8], from: usize, to: usize) -> usize {
     let mut k = at;
     let mut i = from;
@@ -109,27 +144,42 @@ fn add_bytes(buf: &mut [u8], at: usize, text: &[u8], from: usize, to: usize) -> 
         if i >= to {
             return k;
         }
-        k = add_byte(buf, k, text[i]);
+        k = put(buf, k, shown(text[i]));
         i += 1;
     }
     k
 }
 
-// The bytes of a line, at most 120 of them.
+// The bytes of a line, at most 120 of them, and how it ends where it does not end by a byte 10.
 pub fn add_line(buf: &mut [u8], at: usize, text: &[u8], line: usize) -> usize {
     let from = start_of(text, line);
-    if from >= text.len() {
-        return add(buf, at, b"the text ends before it");
-    }
     let end = end_of(text, from);
-    let most = plus(from, 120);
-    if end > most {
-        let i = add_bytes(buf, at, text, from, most);
-        return add(buf, i, b" ..");
+    let to = plus(from, 120);
+    let i = add_bytes(buf, at, text, from, end_within(end, to));
+    add_sentence(
+        buf,
+        i,
+        b"\n ..\nthe text ends before it\n (which lacks the byte 10 that ends a line)\n",
+        told(ending(text.len(), from, end, to), 0, 0, 0, 0),
+    )
+}
+
+fn end_within(end: usize, to: usize) -> usize {
+    if end > to {
+        return to;
     }
-    let i = add_bytes(buf, at, text, from, end);
-    if end == text.len() {
-        return add(buf, i, b" (which lacks the byte 10 that ends a line)");
+    end
+}
+
+fn ending(len: usize, from: usize, end: usize, to: usize) -> usize {
+    if from >= len {
+        return 3;
     }
-    i
+    if end > to {
+        return 2;
+    }
+    if end == len {
+        return 4;
+    }
+    1
 }
