@@ -29,7 +29,17 @@ fn refuse_table(
 ) {
     let mut buf = [0u8; 8192];
     console::say_refusal(b"inspect", number, place);
-    let n = reasons::of_table(&mut buf, number, place, costs, starts, ends, parts, k, bound);
+    let n = reasons::of_table(
+        &mut buf,
+        number,
+        place,
+        costs,
+        starts,
+        ends,
+        parts,
+        k,
+        bound,
+    );
     console::explain(b"inspect", reasons::front::bytes(&buf, n));
 }
 
@@ -83,7 +93,16 @@ fn inspect_saved(
     let mut parts = [0u16; 512];
     match answer_text::tables::read_table(saved, &mut parts) {
         Table::Entries(cut, _, _, _, n) => {
-            inspect(costs, starts, ends, widths, k, bound, reasons::front::numbers(&parts, n), cut);
+            inspect(
+                costs,
+                starts,
+                ends,
+                widths,
+                k,
+                bound,
+                reasons::front::numbers(&parts, n),
+                cut,
+            );
         }
         Table::BadLine(line) => refuse_saved(name, saved, line),
         Table::Short => console::say(b"inspect: the table does not fit its list\n"),
@@ -106,9 +125,23 @@ fn inspect_lists(
             let s = reasons::front::numbers(starts, m);
             let e = reasons::front::numbers(ends, m);
             let w = reasons::front::numbers(widths, m);
-            inspect_saved(reasons::front::numbers(costs, n), s, e, w, line_forms::size(k), bound, name, saved);
+            inspect_saved(
+                reasons::front::numbers(costs, n),
+                s,
+                e,
+                w,
+                line_forms::size(k),
+                bound,
+                name,
+                saved,
+            );
         }
-        Reading::Refused(fault, line) => console::refuse_text(b"inspect", text, validity::number(fault) as usize, line),
+        Reading::Refused(fault, line) => console::refuse_text(
+            b"inspect",
+            text,
+            validity::number(fault) as usize,
+            line,
+        ),
     }
 }
 
@@ -184,7 +217,9 @@ fn run_arguments() {
 
 fn main() {
     if os::arg_count() != 3 {
-        console::say(b"usage: inspect KITFILE TABLEFILE\nTwo file names are needed: a kit text, and a table as split prints it.\n");
+        console::say(
+            b"usage: inspect KITFILE TABLEFILE\nTwo file names are needed: a kit text, and a table as split prints it.\n",
+        );
         return;
     }
     run_arguments();

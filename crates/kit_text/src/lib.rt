@@ -6,11 +6,11 @@ ghost use Rattle.line_forms.specs.Lines.{Ran, column};
 ghost use Rattle.kit_lines.specs.Scan.{ofLetter, mostOf, blocksAt, wiresAt, laidOut, IsFine, Scanned};
 ghost use Rattle.kit_text.specs.Reading.{lists, roomed, readingOf, written, figures, outcome};
 use decimal::Number;
-use validity::Cause;
 use kit_lines::Layout;
 use kit_lines::Scan;
 use line_forms::Run;
 use line_forms::Triple;
+use validity::Cause;
 
 // The reader of kit text (document 01, "Kit text").
 
@@ -43,7 +43,10 @@ pub fn lines<'a>(r: KitReader<'a>, letter: u8) -> Run
 pub fn past<'a>(r: KitReader<'a>, run: Run) -> KitReader<'a>
     ensures { λ q. ⌜ (q .text ≡ r .entry .text) × (q .at ≡ run .next) ⌝ }
 {
-    KitReader { text: r.text, at: run.next }
+    KitReader {
+        text: r.text,
+        at: run.next,
+    }
 }
 
 // Checks 15 and 16: the reader goes past the kit line, the block lines and the wire lines, and what it met is judged.

@@ -115,7 +115,10 @@ the table's split line says cut %, but the cut found is %
 
 // The cut found is not the one that a saved table states.
 pub fn of_cuts(buf: &mut [u8], found: u32, saved: u32) -> usize {
-    let i = say_graph(buf, told(17, line_forms::size(saved), line_forms::size(found), 0, 0));
+    let i = say_graph(
+        buf,
+        told(17, line_forms::size(saved), line_forms::size(found), 0, 0),
+    );
     add_newline(buf, i)
 }
 
@@ -157,7 +160,13 @@ fn graph_sentence(
     match number {
         1 => told(1, costs.len(), 0, 0, 0),
         2 => told(2, k, costs.len(), 0, 0),
-        5 => told(4, place, plus(place, 2), folds::wide(entry(costs, place)), line_forms::size(bound)),
+        5 => told(
+            4,
+            place,
+            plus(place, 2),
+            folds::wide(entry(costs, place)),
+            line_forms::size(bound),
+        ),
         6 => of_ends(costs.len(), starts, ends, place),
         7 => of_repeat(costs.len(), starts, ends, place),
         8 => told(10, 0, 0, 0, 0),
@@ -167,7 +176,14 @@ fn graph_sentence(
 }
 
 // After a refusal 8 the cycle.
-fn add_loop(buf: &mut [u8], at: usize, number: usize, v: usize, starts: &[u16], ends: &[u16]) -> usize {
+fn add_loop(
+    buf: &mut [u8],
+    at: usize,
+    number: usize,
+    v: usize,
+    starts: &[u16],
+    ends: &[u16],
+) -> usize {
     if number != 8 {
         return at;
     }
@@ -185,17 +201,39 @@ pub fn of_graph(
     k: usize,
     bound: u32,
 ) -> usize {
-    let i = say_graph(buf, graph_sentence(number, place, costs, starts, ends, k, bound));
+    let i = say_graph(
+        buf,
+        graph_sentence(number, place, costs, starts, ends, k, bound),
+    );
     let j = add_loop(buf, i, number, place, starts, ends);
     add_newline(buf, j)
 }
 
-fn table_sentence(number: usize, place: usize, costs: &[u16], parts: &[u16], k: usize, bound: u32) -> Sentence {
+fn table_sentence(
+    number: usize,
+    place: usize,
+    costs: &[u16],
+    parts: &[u16],
+    k: usize,
+    bound: u32,
+) -> Sentence {
     match number {
         4 => told(12, parts.len(), costs.len(), 0, 0),
-        10 => told(13, place, plus(place, 2), folds::wide(entry(parts, place)), k),
+        10 => told(
+            13,
+            place,
+            plus(place, 2),
+            folds::wide(entry(parts, place)),
+            k,
+        ),
         11 => told(14, place, 0, 0, 0),
-        12 => told(15, place, search::cost_of(costs, parts, place), line_forms::size(bound), 0),
+        12 => told(
+            15,
+            place,
+            search::cost_of(costs, parts, place),
+            line_forms::size(bound),
+            0,
+        ),
         _ => told(16, 0, 0, 0, 0),
     }
 }

@@ -4,8 +4,8 @@ ghost use Prim.Native.Nat.{_<_, _≤_};
 use crate::words::Sentence;
 use crate::words::end_of;
 use crate::words::plus;
-use crate::words::told;
 use crate::words::start_of;
+use crate::words::told;
 use decimal::Number;
 
 fn past_number(text: &[u8], at: usize, most: u32) -> usize
@@ -93,7 +93,14 @@ fn of_first(end: usize, head: usize, block: usize, wire: usize) -> Sentence {
     told(6, column(0, head), 0, 0, 0)
 }
 
-fn of_after_wire(line: usize, from: usize, end: usize, head: usize, block: usize, wire: usize) -> Sentence {
+fn of_after_wire(
+    line: usize,
+    from: usize,
+    end: usize,
+    head: usize,
+    block: usize,
+    wire: usize,
+) -> Sentence {
     if block > end {
         return told(7, line, 0, 0, 0);
     }
@@ -106,7 +113,14 @@ fn of_after_wire(line: usize, from: usize, end: usize, head: usize, block: usize
     told(10, line, column(from, wire), 0, 0)
 }
 
-fn of_after_block(line: usize, from: usize, end: usize, head: usize, block: usize, wire: usize) -> Sentence {
+fn of_after_block(
+    line: usize,
+    from: usize,
+    end: usize,
+    head: usize,
+    block: usize,
+    wire: usize,
+) -> Sentence {
     if block > end {
         return told(11, line, 0, 0, 0);
     }

@@ -9,7 +9,15 @@ fn say_split(cut: u32, rounds: usize, rung: usize, moves: usize, parts: &[u16]) 
     console::answer(b"split", w, &buf);
 }
 
-fn refuse_graph(number: usize, place: usize, costs: &[u16], starts: &[u16], ends: &[u16], k: usize, bound: u32) {
+fn refuse_graph(
+    number: usize,
+    place: usize,
+    costs: &[u16],
+    starts: &[u16],
+    ends: &[u16],
+    k: usize,
+    bound: u32,
+) {
     let mut buf = [0u8; 8192];
     console::say_refusal(b"split", number, place);
     let n = reasons::of_graph(&mut buf, number, place, costs, starts, ends, k, bound);
@@ -19,9 +27,24 @@ fn refuse_graph(number: usize, place: usize, costs: &[u16], starts: &[u16], ends
 fn split(costs: &[u16], starts: &[u16], ends: &[u16], widths: &[u16], k: usize, bound: u32) {
     let mut table = [0u16; 512];
     let mut ladder = [0u16; 4608];
-    match partition::split(costs, starts, ends, widths, k, bound, &mut table, &mut ladder) {
+    match partition::split(
+        costs,
+        starts,
+        ends,
+        widths,
+        k,
+        bound,
+        &mut table,
+        &mut ladder,
+    ) {
         Partitioned::Parted(cut, rounds, rung, moves) => {
-            say_split(cut, rounds, rung, moves, reasons::front::numbers(&table, costs.len()));
+            say_split(
+                cut,
+                rounds,
+                rung,
+                moves,
+                reasons::front::numbers(&table, costs.len()),
+            );
         }
         Partitioned::Failed(cause, place) => {
             let number = line_forms::size(validity::number(cause));
@@ -31,15 +54,34 @@ fn split(costs: &[u16], starts: &[u16], ends: &[u16], widths: &[u16], k: usize, 
 }
 
 // The lists of a kit that was read, at their own lengths.
-fn split_lists(r: Reading, text: &[u8], costs: &[u16], starts: &[u16], ends: &[u16], widths: &[u16]) {
+fn split_lists(
+    r: Reading,
+    text: &[u8],
+    costs: &[u16],
+    starts: &[u16],
+    ends: &[u16],
+    widths: &[u16],
+) {
     match r {
         Reading::Kit(n, m, k, bound) => {
             let s = reasons::front::numbers(starts, m);
             let e = reasons::front::numbers(ends, m);
             let w = reasons::front::numbers(widths, m);
-            split(reasons::front::numbers(costs, n), s, e, w, line_forms::size(k), bound);
+            split(
+                reasons::front::numbers(costs, n),
+                s,
+                e,
+                w,
+                line_forms::size(k),
+                bound,
+            );
         }
-        Reading::Refused(fault, line) => console::refuse_text(b"split", text, validity::number(fault) as usize, line),
+        Reading::Refused(fault, line) => console::refuse_text(
+            b"split",
+            text,
+            validity::number(fault) as usize,
+            line,
+        ),
     }
 }
 
@@ -62,7 +104,9 @@ fn read_and_run() {
 
 fn main() {
     if os::arg_count() > 1 {
-        console::say(b"usage: split < KITFILE\nReads a kit text on standard input and prints each block's stage.\n");
+        console::say(
+            b"usage: split < KITFILE\nReads a kit text on standard input and prints each block's stage.\n",
+        );
         return;
     }
     read_and_run();

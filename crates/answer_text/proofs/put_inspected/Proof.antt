@@ -1,5 +1,7 @@
+-- The room asked for is the length of the line, counted; the line itself is the callee's.
 use borrow.Author.Needs.{needs}
 use native.Mathlib.Omega.{arith}
+use lib.ListN.{length-append}
 use Rattle.line_forms.specs.Form.{printedFields, printed}
 use Rattle.answer_text.proofs.put_inspected.Statement.{statement}
 use Rattle.answer_text.proofs.put_inspected.Tie as tie
@@ -11,6 +13,6 @@ put-inspected-spec =
     (tie.spec
     (λ c. search needs)
     (λ c. search needs)
-    (λ c κs. omega (arith, c .before .before .before .before .pre))
+    (λ c κs. simp length-append (omega (arith, simp length-append at (c .before .before .before .before .pre))))
     (λ c. search needs)
     (λ c. c .before .before .put-one .ensures))

@@ -1,5 +1,7 @@
+-- The room asked for is the length of the line, counted; the line itself is the callee's.
 use borrow.Author.Needs.{needs}
 use native.Mathlib.Omega.{arith}
+use lib.ListN.{length-append}
 use Rattle.line_forms.specs.Form.{printedFields, printed}
 use Rattle.answer_text.proofs.put_refusal.Statement.{statement}
 use Rattle.answer_text.proofs.put_refusal.Tie as tie
@@ -12,6 +14,6 @@ put-refusal-spec =
     (λ c. search needs)
     (λ c. search needs)
     (λ c. search needs)
-    (λ c κs. omega (arith, c .before .before .before .before .before .pre))
+    (λ c κs. simp length-append (omega (arith, simp length-append at (c .before .before .before .before .before .pre))))
     (λ c. search needs)
     (λ c. c .before .before .put-two .ensures))
