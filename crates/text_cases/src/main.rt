@@ -1,6 +1,6 @@
-// Runs the reader of kit text, the writer of answers and the reader of tables at their edges.
+// Runs the reader of kit text, the writer of answers and the reader of tables into lists and buffers that are just long
+// enough, or one short. What the programs themselves can be made to say is in tests/words.
 ghost use Prim.Native.Nat.{_≤_};
-ghost use lib.ListN.{length};
 use answer_text::Written;
 use answer_text::tables::Table;
 use kit_text::Reading;
@@ -64,249 +64,53 @@ fn show(
     say(b"\n");
 }
 
-fn read(name: &[u8], text: &[u8]) {
-    let mut costs = [7u16; 512];
-    let mut starts = [7u16; 1024];
-    let mut ends = [7u16; 1024];
-    let mut widths = [7u16; 1024];
-    show(name, text, &mut costs, &mut starts, &mut ends, &mut widths);
-}
-
-fn lines() {
-    read(b"empty text", b"");
-    read(
-        b"an empty line first",
-        b"\n(kit (blocks 0) (stages 1) (limit 1))\n",
-    );
-    read(
-        b"an empty line last",
-        b"(kit (blocks 0) (stages 1) (limit 1))\n\n",
-    );
-    read(
-        b"two spaces",
-        b"(kit (blocks 1)  (stages 1) (limit 1))\n(block (cost 1))\n",
-    );
-    read(
-        b"no byte 10 at the end",
-        b"(kit (blocks 1) (stages 1) (limit 1))\n(block (cost 1))",
-    );
-    read(
-        b"byte 13",
-        b"(kit (blocks 1) (stages 1) (limit 1))\r\n(block (cost 1))\r\n",
-    );
-    read(
-        b"byte 0",
-        b"(kit (blocks 1) (stages 1) (limit 1))\n(block (cost 1))\n\0\n",
-    );
-    read(
-        b"bytes above 127",
-        b"(kit (blocks 1) (stages 1) (limit 1))\n(block (cost \xb9))\n",
-    );
-    read(b"no kit line", b"(block (cost 1))\n");
-    read(
-        b"a second kit line",
-        b"(kit (blocks 0) (stages 1) (limit 1))\n(kit (blocks 0) (stages 1) (limit 1))\n",
-    );
-    read(
-        b"a wire line before block lines",
-        b"(kit (blocks 1) (stages 1) (limit 1))\n(wire (from 0) (to 0) (width 1))\n(block (cost 1))\n",
-    );
-    read(
-        b"a wire line between block lines",
-        b"(kit (blocks 2) (stages 1) (limit 1))\n(block (cost 1))\n(wire (from 0) (to 0) (width 1))\n(block (cost 1))\n",
-    );
-    read(
-        b"a word misspelt",
-        b"(kit (blocks 1) (stages 1) (limit 1))\n(blok (cost 1))\n",
-    );
-}
-
-fn counts() {
-    read(
-        b"blocks 600 with one line",
-        b"(kit (blocks 600) (stages 1) (limit 1))\n(block (cost 1))\n",
-    );
-    read(
-        b"blocks 1 with two lines",
-        b"(kit (blocks 1) (stages 1) (limit 1))\n(block (cost 1))\n(block (cost 1))\n",
-    );
-    read(
-        b"blocks 0 alone",
-        b"(kit (blocks 0) (stages 1) (limit 1))\n",
-    );
-}
-
-fn values() {
-    read(
-        b"65,535",
-        b"(kit (blocks 1) (stages 65535) (limit 1))\n(block (cost 65535))\n",
-    );
-    read(
-        b"65,536 as a cost",
-        b"(kit (blocks 1) (stages 1) (limit 1))\n(block (cost 65536))\n",
-    );
-    read(
-        b"65,536 as a stage count",
-        b"(kit (blocks 1) (stages 65536) (limit 1))\n(block (cost 1))\n",
-    );
-    read(
-        b"limit 99,999,999",
-        b"(kit (blocks 1) (stages 1) (limit 99999999))\n(block (cost 1))\n",
-    );
-    read(
-        b"limit 100,000,000",
-        b"(kit (blocks 1) (stages 1) (limit 100000000))\n(block (cost 1))\n",
-    );
-    read(
-        b"0",
-        b"(kit (blocks 1) (stages 0) (limit 0))\n(block (cost 0))\n",
-    );
-    read(
-        b"00",
-        b"(kit (blocks 1) (stages 1) (limit 1))\n(block (cost 00))\n",
-    );
-    read(
-        b"01",
-        b"(kit (blocks 1) (stages 1) (limit 01))\n(block (cost 1))\n",
-    );
-    read(
-        b"no digit",
-        b"(kit (blocks 1) (stages 1) (limit 1))\n(block (cost ))\n",
-    );
-    read(
-        b"a sign",
-        b"(kit (blocks 1) (stages 1) (limit 1))\n(block (cost -1))\n",
-    );
-}
-
-// Three blocks and two wires, into lists that are just long enough, or one of them one too short.
-fn exact(text: &[u8]) {
-    let mut costs = [7u16; 3];
-    let mut starts = [7u16; 2];
-    let mut ends = [7u16; 2];
-    let mut widths = [7u16; 2];
+// Reads a text into lists of those lengths.
+fn room(name: &[u8], text: &[u8], c: usize, s: usize, e: usize, w: usize)
+    requires { ⌜ (c ≤ 5) × (s ≤ 4) × (e ≤ 4) × (w ≤ 4) ⌝ }
+{
+    let mut costs = [7u16; 5];
+    let mut starts = [7u16; 4];
+    let mut ends = [7u16; 4];
+    let mut widths = [7u16; 4];
     show(
-        b"lists just long enough",
+        name,
         text,
-        &mut costs,
-        &mut starts,
-        &mut ends,
-        &mut widths,
+        &mut costs[..c],
+        &mut starts[..s],
+        &mut ends[..e],
+        &mut widths[..w],
     );
 }
 
-fn short_costs(text: &[u8]) {
-    let mut costs = [7u16; 2];
-    let mut starts = [7u16; 2];
-    let mut ends = [7u16; 2];
-    let mut widths = [7u16; 2];
-    show(
-        b"costs one too short",
-        text,
-        &mut costs,
-        &mut starts,
-        &mut ends,
-        &mut widths,
-    );
+// Three blocks and two wires.
+fn rooms(text: &[u8]) {
+    room(b"lists longer than the kit", text, 5, 4, 4, 4);
+    room(b"lists just long enough", text, 3, 2, 2, 2);
+    room(b"costs one too short", text, 2, 2, 2, 2);
+    room(b"starts one too short", text, 3, 1, 2, 2);
+    room(b"ends one too short", text, 3, 2, 1, 2);
+    room(b"widths one too short", text, 3, 2, 2, 1);
 }
 
-fn short_starts(text: &[u8]) {
-    let mut costs = [7u16; 3];
-    let mut starts = [7u16; 1];
-    let mut ends = [7u16; 2];
-    let mut widths = [7u16; 2];
-    show(
-        b"starts one too short",
-        text,
-        &mut costs,
-        &mut starts,
-        &mut ends,
-        &mut widths,
-    );
+fn refused(text: &[u8]) {
+    room(b"a refused text, and room", text, 5, 4, 4, 4);
+    room(b"a refused text, and none", text, 0, 0, 0, 0);
 }
 
-fn short_ends(text: &[u8]) {
-    let mut costs = [7u16; 3];
-    let mut starts = [7u16; 2];
-    let mut ends = [7u16; 1];
-    let mut widths = [7u16; 2];
-    show(
-        b"ends one too short",
-        text,
-        &mut costs,
-        &mut starts,
-        &mut ends,
-        &mut widths,
+fn readings() {
+    rooms(
+        b"(kit (blocks 3) (stages 2) (limit 9))\n(block (cost 4))\n(block (cost 5))\n(block (cost 6))\n(wire (from 0) (to 1) (width 8))\n(wire (from 1) (to 2) (width 9))\n",
     );
-}
-
-fn short_widths(text: &[u8]) {
-    let mut costs = [7u16; 3];
-    let mut starts = [7u16; 2];
-    let mut ends = [7u16; 2];
-    let mut widths = [7u16; 1];
-    show(
-        b"widths one too short",
-        text,
-        &mut costs,
-        &mut starts,
-        &mut ends,
-        &mut widths,
-    );
-}
-
-fn no_room(name: &[u8], text: &[u8]) {
-    let mut costs: [u16; 0] = [];
-    let mut starts: [u16; 0] = [];
-    let mut ends: [u16; 0] = [];
-    let mut widths: [u16; 0] = [];
-    show(name, text, &mut costs, &mut starts, &mut ends, &mut widths);
-}
-
-fn rooms() {
-    let text =
-        b"(kit (blocks 3) (stages 2) (limit 9))\n(block (cost 4))\n(block (cost 5))\n(block (cost 6))\n(wire (from 0) (to 1) (width 8))\n(wire (from 1) (to 2) (width 9))\n";
-    exact(text);
-    short_costs(text);
-    short_starts(text);
-    short_ends(text);
-    short_widths(text);
-    no_room(
-        b"16 before 4",
-        b"(kit (blocks 2) (stages 1) (limit 1))\n(block (cost 1))\n",
-    );
-    no_room(
-        b"15 before 4",
-        b"(kit (blocks 2) (stages 1) (limit 1))\n(block (cost 1)\n",
-    );
-    no_room(
+    refused(b"(kit (blocks 2) (stages 1) (limit 1))\n(block (cost 1))\n");
+    refused(b"(kit (blocks 2) (stages 1) (limit 1))\n(block (cost 1)\n");
+    room(
         b"no blocks, no room",
         b"(kit (blocks 0) (stages 1) (limit 1))\n",
+        0,
+        0,
+        0,
+        0,
     );
-}
-
-// Adds a line, if there is room for it.
-fn add(buf: &mut [u8], at: usize, line: &[u8]) -> usize
-    requires { ⌜ at ≤ length (now buf) ⌝ }
-    ensures { λ r. ⌜ r ≤ length (now (buf .entry)) ⌝ }
-{
-    if line.len() > buf.len() - at {
-        return at;
-    }
-    decimal::copy(buf, at, line)
-}
-
-fn repeat(buf: &mut [u8], at: usize, line: &[u8], times: usize) -> usize
-    requires { ⌜ at ≤ length (now buf) ⌝ }
-    ensures { λ r. ⌜ r ≤ length (now (buf .entry)) ⌝ }
-{
-    let mut i = at;
-    let mut n: usize = 0;
-    while n < times {
-        i = add(buf, i, line);
-        n += 1;
-    }
-    i
 }
 
 // The first n bytes, or all of them.
@@ -315,57 +119,6 @@ fn front(buf: &[u8], n: usize) -> &[u8] {
         return &buf[..n];
     }
     buf
-}
-
-fn fill(buf: &mut [u8], head: &[u8], blocks: usize, wires: usize) -> usize {
-    let i = add(buf, 0, head);
-    let j = repeat(buf, i, b"(block (cost 65535))\n", blocks);
-    repeat(
-        buf,
-        j,
-        b"(wire (from 65535) (to 65535) (width 65535))\n",
-        wires,
-    )
-}
-
-fn many(name: &[u8], head: &[u8], blocks: usize, wires: usize) {
-    let mut buf = [0u8; 70000];
-    let n = fill(&mut buf, head, blocks, wires);
-    read(name, front(&buf, n));
-}
-
-fn junk() {
-    let buf = [120u8; 65537];
-    read(b"65,536 bytes of junk", front(&buf, 65536));
-    read(b"65,537 bytes of junk", &buf);
-}
-
-fn sizes() {
-    many(
-        b"512 block lines and 1,024 wire lines",
-        b"(kit (blocks 512) (stages 16) (limit 4800))\n",
-        512,
-        1024,
-    );
-    many(
-        b"the 513th block line",
-        b"(kit (blocks 512) (stages 16) (limit 4800))\n",
-        513,
-        0,
-    );
-    many(
-        b"the 513th block line under 600",
-        b"(kit (blocks 600) (stages 16) (limit 4800))\n",
-        600,
-        0,
-    );
-    many(
-        b"the 1,025th wire line",
-        b"(kit (blocks 512) (stages 16) (limit 4800))\n",
-        512,
-        1025,
-    );
-    junk();
 }
 
 fn say_written(name: &[u8], w: Written, buf: &[u8]) {
@@ -489,11 +242,7 @@ fn tables() {
 }
 
 fn main() {
-    lines();
-    counts();
-    values();
-    rooms();
-    sizes();
+    readings();
     splits();
     orders();
     refusals();

@@ -1,3 +1,4 @@
+-- The cut is within the list by the test.
 use mathlib.Core.Path.{sym}
 use borrow.Author.Needs.{needs}
 use lib.Seq.{length-take-le}

@@ -1,3 +1,4 @@
+-- Safe and ending: each entry once.
 use Prim.Native.Nat.{_-_, _≤_}
 use borrow.Author.Needs.{needs}
 use native.Mathlib.Omega.{arith}
