@@ -44,6 +44,14 @@ fn say_list(name: &[u8], list: &[u16]) {
     }
 }
 
+fn say_lists(costs: &[u16], starts: &[u16], ends: &[u16], widths: &[u16]) {
+    say_list(b"; costs", costs);
+    say_list(b"; starts", starts);
+    say_list(b"; ends", ends);
+    say_list(b"; widths", widths);
+    say(b"\n");
+}
+
 // Reads a text into lists, which hold 7 before the call, and says the answer and how they begin.
 fn show(
     name: &[u8],
@@ -57,11 +65,7 @@ fn show(
     say(name);
     say(b": ");
     say_reading(r);
-    say_list(b"; costs", costs);
-    say_list(b"; starts", starts);
-    say_list(b"; ends", ends);
-    say_list(b"; widths", widths);
-    say(b"\n");
+    say_lists(costs, starts, ends, widths);
 }
 
 // Reads a text into lists of those lengths.
