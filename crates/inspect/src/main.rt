@@ -4,6 +4,7 @@ use answer_text::tables::Table;
 use console::input::Input;
 use inspection::Inspected;
 use kit_text::Reading;
+use validity::Cause;
 
 fn say_order(cut: u32, order: &[u16]) {
     let mut buf = [0u8; 1024];
@@ -46,7 +47,7 @@ fn refuse_table(
 // A table text that is not of its form is 15 at its line, as a kit text is.
 fn refuse_saved(name: &[u8], saved: &[u8], line: usize) {
     let mut buf = [0u8; 1024];
-    console::say_refusal(b"inspect", 15, line);
+    console::say_refusal(b"inspect", line_forms::size(validity::number(Cause::Line)), line);
     let n = reasons::of_saved(&mut buf, saved, line);
     console::say(b"inspect: ");
     console::explain(name, reasons::front::bytes(&buf, n));

@@ -1,3 +1,4 @@
+-- Invariant: the lines before line n take what is no longer left.
 use Prim.Native.Nat.{_+_, _-_, _≤_}
 use mathlib.Core.Path.{_≡_}
 use borrow.Author.Needs.{needs}

@@ -1,3 +1,4 @@
+-- The words' lengths and the numbers' widths, summed.
 use mathlib.Core.Path.{ap}
 use borrow.Author.Needs.{needs}
 use native.Mathlib.Omega.{arith}

@@ -1,3 +1,4 @@
+-- Invariant: the lines before line n are written, and i is the place past them.
 use Prim.Native.Nat.{_-_}
 use borrow.Author.Needs.{needs}
 use native.Mathlib.Omega.{arith}

@@ -1,3 +1,4 @@
+-- The entry as a number, in a line of two.
 use borrow.Author.Needs.{needs}
 use Rattle.line_forms.specs.Form.{printedFields, printed}
 use Rattle.answer_text.proofs.put_entry.Statement.{statement}

@@ -1,3 +1,4 @@
+-- The head line alone is too long, or the entries do not fit what it leaves.
 use borrow.Author.Needs.{needs}
 use Rattle.answer_text.proofs.Buffer.{head-over, room-left, room-over}
 use Rattle.answer_text.proofs.table_over.Statement.{statement}

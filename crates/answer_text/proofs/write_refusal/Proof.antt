@@ -1,3 +1,4 @@
+-- Too short by the length of the line, or written.
 use mathlib.Core.List.{[], _∷_}
 use borrow.Author.Needs.{needs}
 use Rattle.answer_text.specs.Forms.{refusedForm}

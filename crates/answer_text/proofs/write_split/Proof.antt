@@ -1,3 +1,4 @@
+-- Too short by the length of the text, or written: the head line, then the entries.
 use mathlib.Core.List.{[], _∷_}
 use borrow.Author.Needs.{needs}
 use native.Mathlib.Omega.{arith}

@@ -1,3 +1,4 @@
+-- By recursion on the number, as its digits are defined: all but the last, then the last.
 use Prim.Native.Nat.{ℕ, _<_}
 use borrow.Author.Needs.{needs}
 use native.Mathlib.Omega.{arith}

@@ -1,3 +1,4 @@
+-- Invariant: the first k bytes of the word stand at the place.
 use Prim.Native.Nat.{_≤_, _-_}
 use mathlib.Core.Path.{_≡_}
 use borrow.Author.Needs.{needs}

@@ -1,3 +1,4 @@
+-- The word by `starts`, the number by `number_at`.
 use native.Mathlib.Omega.{arith}
 use borrow.Author.Needs.{needs}
 use Rattle.decimal.specs.Read.{fieldOf}

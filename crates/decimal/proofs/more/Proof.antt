@@ -1,3 +1,4 @@
+-- Invariant: what the digits from i on make of v is what those from the first place on make of first.
 use Prim.Native.Nat.{_≤_, _-_}
 use mathlib.Core.Path.{_≡_, refl}
 use native.Mathlib.Omega.{arith}

@@ -1,3 +1,4 @@
+-- A first digit, then `more`.
 use borrow.Author.Needs.{needs}
 use Rattle.decimal.proofs.Reading.{number-end, number-low, number-high, number-on}
 use Rattle.decimal.proofs.number_at.Statement.{statement}

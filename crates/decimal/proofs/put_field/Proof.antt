@@ -1,3 +1,4 @@
+-- The word, then the digits: two writings, one after the other.
 use borrow.Author.Needs.{needs}
 use Rattle.decimal.specs.Decimal.{decimal}
 use Rattle.decimal.proofs.Writing.{puts-then, room-then, room-first}

@@ -1,3 +1,4 @@
+-- Invariant: the word from k on stands at i exactly if the whole word stands at the place.
 use Prim.Native.Nat.{_≤_, _-_}
 use mathlib.Core.Path.{_≡_, refl}
 use native.Mathlib.Omega.{arith}

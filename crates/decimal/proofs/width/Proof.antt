@@ -1,3 +1,4 @@
+-- Invariant: n - 1 digits of v have been taken off, and w is left.
 use native.Mathlib.Omega.{arith}
 use Rattle.decimal.proofs.Writing.{Counting, counting-turn, counting-end, decimal-short}
 use Rattle.decimal.proofs.width.Statement.{statement}

@@ -1,3 +1,4 @@
+-- A field, then the end of the line.
 use native.Mathlib.Omega.{arith}
 use borrow.Author.Needs.{needs}
 use Rattle.decimal.proofs.Reading.{within}

@@ -1,3 +1,4 @@
+-- A field, then the end of the line.
 use borrow.Author.Needs.{needs}
 use Rattle.decimal.specs.Decimal.{decimal}
 use Rattle.decimal.proofs.Writing.{room-of-field, room-field, field-then}

@@ -1,3 +1,4 @@
+-- Invariant: n entries in order have been passed, and what the lines from i on say is still to be counted.
 use Prim.Native.Nat.{_-_}
 use borrow.Author.Needs.{needs}
 use native.Mathlib.Omega.{arith}

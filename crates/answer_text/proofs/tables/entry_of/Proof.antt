@@ -1,3 +1,4 @@
+-- A line of the form whose first number is the entry's own.
 use mathlib.Core.Path.{sym, _∙_}
 use borrow.Author.Needs.{needs}
 use Rattle.line_forms.specs.Read.{asTwo}

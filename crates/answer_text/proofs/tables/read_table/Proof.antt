@@ -1,3 +1,4 @@
+-- Each answer by the tests before it: the split line, the end of the text, the length of the list.
 use borrow.Author.Needs.{needs}
 use native.Mathlib.Omega.{arith}
 use Rattle.answer_text.proofs.Saved.{no-split-line, bad-entry, table-short, parts-room, table-read}

@@ -1,3 +1,4 @@
+-- Invariant: the first n entries are written, and what is still to be written is what the lines from i on say.
 use Prim.Native.Nat.{_-_}
 use borrow.Author.Needs.{needs}
 use native.Mathlib.Omega.{arith}

@@ -1,3 +1,4 @@
+-- Invariant: the buffer keeps its length; the turns that are left are the measure.
 use mathlib.Core.Path.{_≡_}
 use borrow.Author.Needs.{needs}
 use native.Mathlib.Omega.{arith}
