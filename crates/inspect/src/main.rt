@@ -47,7 +47,11 @@ fn refuse_table(
 // A table text that is not of its form is 15 at its line, as a kit text is.
 fn refuse_saved(name: &[u8], saved: &[u8], line: usize) {
     let mut buf = [0u8; 1024];
-    console::say_refusal(b"inspect", line_forms::size(validity::number(Cause::Line)), line);
+    console::say_refusal(
+        b"inspect",
+        line_forms::size(validity::number(Cause::Line)),
+        line,
+    );
     let n = reasons::of_saved(&mut buf, saved, line);
     console::say(b"inspect: ");
     console::explain(name, reasons::front::bytes(&buf, n));

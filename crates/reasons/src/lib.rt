@@ -70,9 +70,8 @@ pub fn of_text(buf: &mut [u8], text: &[u8], number: usize, line: usize) -> usize
     add_newline(buf, j)
 }
 
-// A line of a saved table, 15.
-pub fn of_saved(buf: &mut [u8], text: &[u8], line: usize) -> usize {
-    let i = add_sentence(
+fn say_saved(buf: &mut [u8], s: Sentence) -> usize {
+    add_sentence(
         buf,
         0,
         b"line 1, column %: the form breaks; expected is (split (cut N) (rungs N) (cutat N) (moves N)): 
@@ -80,8 +79,13 @@ line %: past the 512th entry, one too many; expected is the end of the text:
 line %: another block's line, out of order; expected is (block % (stage N)): 
 line %, column %: the form breaks; expected is (block % (stage N)): 
 ",
-        lines::of_saved(text, line),
-    );
+        s,
+    )
+}
+
+// A line of a saved table, 15.
+pub fn of_saved(buf: &mut [u8], text: &[u8], line: usize) -> usize {
+    let i = say_saved(buf, lines::of_saved(text, line));
     let j = add_line(buf, i, text, line);
     add_newline(buf, j)
 }
