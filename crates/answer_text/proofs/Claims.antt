@@ -1,5 +1,5 @@
 -- What reading a table answers, exactly.
-use Prim.Native.Nat.{ℕ, zero, suc, _+_, _-_, _≤_, _<_}
+use Prim.Native.Nat.{ℕ, zero, suc, _+_, _-_, _*_, _≤_, _<_}
 use mathlib.Core.Path.{_≡_, refl, sym, ap, ap₂, _∙_}
 use mathlib.Core.Bool.{true, false}
 use mathlib.Core.Logic.{_⊎_, inl, inr, _↔_}
@@ -8,18 +8,18 @@ use mathlib.Core.Option.{Option, some, none}
 use native.Mathlib.Nat.{not-suc-le-zero, le-of-suc-le-suc}
 use native.Mathlib.Omega.{arith}
 use lib.Dec.{ltb, eqb}
-use lib.ListN.{length, getD, drop, drop-of-length-le}
+use lib.ListN.{length, getD, drop, drop-of-length-le, length-append}
 use borrow.Author.Tests.{lt-ltb, le-ltb, le-leb, eq-eqb, ltb-true, ltb-false, eqb-true}
 use Rattle.folds.specs.Fold.{over}
 use Rattle.folds.proofs.Cases.{no-bool, by, and-false}
 use Rattle.folds.proofs.Cases.{chose}
-use Rattle.decimal.specs.Decimal.{numbers, numbersIn}
-use Rattle.line_forms.specs.Form.{Field, printedFields, printed, fits, same, asForm}
+use Rattle.decimal.specs.Decimal.{digits, decimal, numbers, numbersIn}
+use Rattle.line_forms.specs.Form.{Field, printedFields, printed, printedAll, fits, same, asForm}
 use Rattle.line_forms.specs.Lines.{linesOf, leading, inOrder, numbered, column}
 use Rattle.line_forms.specs.Stand.{said, FirstBad, AllStand, Low}
 use Rattle.line_forms.proofs.Form.{none-some, fits-cons, as-own, as-sound}
 use Rattle.line_forms.proofs.Lines.{flat-lines, leading-some, leading-nil, leading-few, length-column}
-use Rattle.line_forms.proofs.Rows.{fits-most, printedRows, length-rows, lines-line, lines-only, leading-each, leading-last, leading-short}
+use Rattle.line_forms.proofs.Rows.{AllFit, mosts, line-long, lines-long, fits-most, printedRows, length-rows, lines-line, lines-only, leading-each, leading-last, leading-short}
 use Rattle.line_forms.proofs.Stand.{is-some, is-none, one-bad, none-bad}
 use Rattle.answer_text.specs.Forms.{splitForm, entryForm, blockWord}
 use Rattle.answer_text.specs.Answers.{enumerated, tableText}
@@ -244,3 +244,25 @@ pub table-round-trip : (head entries old : List ℕ) → Savable head entries �
     → (savedIn (tableText splitForm head blockWord entries) ≡ saved head entries) × (tableWritten (savedIn (tableText splitForm head blockWord entries)) old ≡ over entries old)
 unfolding tableWritten
 table-round-trip head entries old w h = let e = saved-own head entries w in (e, rw (e, le-ltb _ _ h))
+
+-- ---------------------------------------------------------------- how long a table's text is
+entries-fit : (entries : List ℕ) (n : ℕ) → n + length entries ≤ 65535 → Low entries → AllFit (entryForm blockWord) (enumerated n entries)
+unfolding enumerated
+entries-fit [] n h l = tt
+entries-fit (s ∷ entries) n h l = (entry-fits n s (omega arith) (l 0), entries-fit entries (suc n) (omega arith) (λ i. l (suc i)))
+
+longest-split : length (printed splitForm (mosts (splitForm .fields))) ≡ 74
+unfolding printed printedFields decimal digits
+longest-split = refl
+
+longest-entry : length (printed (entryForm blockWord) (mosts (entryForm blockWord .fields))) ≡ 28
+unfolding printed printedFields decimal digits
+longest-entry = refl
+
+-- the text of a table has at most 14,410 bytes
+pub table-long : (head entries : List ℕ) → Savable head entries → length (tableText splitForm head blockWord entries) ≤ 14410
+unfolding tableText
+table-long head entries w =
+    let a : length (printed splitForm head) ≤ 74 = rw longest-split at (line-long splitForm head (w .figures)) in
+    let b : length (printedAll (entryForm blockWord) (enumerated 0 entries)) ≤ length (enumerated 0 entries) * 28 = rw longest-entry at (lines-long (entryForm blockWord) (enumerated 0 entries) (entries-fit entries 0 (omega (arith, w .few)) (w .low))) in
+    omega (arith, w .few, length-enumerated entries 0, length-append (printed splitForm head) (printedAll (entryForm blockWord) (enumerated 0 entries)))

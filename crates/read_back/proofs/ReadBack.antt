@@ -15,7 +15,6 @@ use Rattle.folds.proofs.Sums.{sumTo-le}
 use Rattle.graph.specs.Graph.{Graph, vertices, edges, seen, crossing, cut, cutOf}
 use Rattle.validity.specs.Cause.{Answer, numberOf, refusal, told}
 use Rattle.validity.specs.Check.{Valid}
-use Rattle.validity.specs.Sound.{Sound}
 use Rattle.validity.specs.declared.Cause.{Cause}
 use Rattle.validity.specs.declared.Cause.the-variants.{Vertices, Parts, Edges, Room, Cost, Ends, Repeat, Cycle, Uncut, Entry, Empty, Over, PartCycle, Length, Line, Lines}
 use Rattle.validity.specs.declared.Verdict.{Verdict}
@@ -25,14 +24,14 @@ use Rattle.hierarchy.specs.Climb.{keptOf}
 use Rattle.hierarchy.proofs.Own.{kept-few}
 use Rattle.moves.specs.Pass.{Tally}
 use Rattle.partition.specs.Phases.{Result, nothing, parted, resultOf}
-use Rattle.partition.specs.Split.{verdictOf, valuesOf, answerAfter, splitOf, partsInto, ifPassed, tableAfter}
+use Rattle.partition.specs.Split.{verdictOf, splitOf, tableAfter}
 use Rattle.partition.proofs.Claims.{split-least, split-few-moves, split-good}
 use Rattle.line_forms.specs.Form.{fits}
 use Rattle.line_forms.specs.Stand.{Low}
 use Rattle.answer_text.specs.Forms.{splitForm}
 use Rattle.answer_text.specs.Answers.{splitText}
 use Rattle.answer_text.specs.Tables.{savedIn, tableAnswer, tableWritten, Savable}
-use Rattle.answer_text.proofs.Claims.{saved-own}
+use Rattle.answer_text.proofs.Claims.{saved-own, table-long}
 
 -- no refusal has the number 0
 some-number : (c : Cause) → 0 < numberOf c
@@ -158,3 +157,11 @@ module _ (G : Graph) (k bound : ℕ) (table ladder : List ℕ) (narrow : (j : �
       let own = saved-own (c ∷ r ∷ g ∷ m ∷ []) (a .tally .parts) (savable (c ∷ r ∷ g ∷ m ∷ []) a) in
       let h : length (a .tally .parts) ≤ length old = omega (arith, whole) in
       rw (parts, own, le-ltb _ _ h, whole) (refl, refl)
+
+  -- and its buffer of 16,384 bytes is always long enough
+  pub split-fits : (c r g m : ℕ) → splitOf G k bound table ladder ≡ told Passed (c ∷ r ∷ g ∷ m ∷ []) → length (splitText c r g m printedParts) ≤ 16384
+  split-fits c r g m e =
+      let a = answered G k bound table ladder (c ∷ r ∷ g ∷ m ∷ []) e in
+      let whole = split-good G k bound (a .valid) (a .result) .whole in
+      let parts : printedParts ≡ a .tally .parts = rw (a .left) (take-over (a .tally .parts) table (vertices G) whole) in
+      rw parts (omega (arith, table-long (c ∷ r ∷ g ∷ m ∷ []) (a .tally .parts) (savable (c ∷ r ∷ g ∷ m ∷ []) a)))
