@@ -1,11 +1,9 @@
 -- The checks of the lines, from what the code's branches say.
 use Prim.Native.Nat.{ℕ, _+_, _-_, _≤_, _<_}
 use mathlib.Core.Path.{_≡_, refl, sym, ap, _∙_, subst}
-use mathlib.Core.Bool.{true, false}
 use mathlib.Core.List.{List, [], _∷_}
-use mathlib.Core.Option.{none, some}
+use mathlib.Core.Option.{none}
 use native.Mathlib.Omega.{arith}
-use lib.Dec.{eqb}
 use lib.ListN.{length, drop, length-drop}
 use lib.Seq.{drop-drop}
 use borrow.Author.Tests.{lt-ltb, le-ltb, eq-eqb, ne-eqb}
@@ -15,7 +13,7 @@ use Rattle.line_forms.specs.Read.{readForm, asThree}
 use Rattle.line_forms.specs.declared.Triple.{Triple}
 use Rattle.line_forms.specs.declared.Triple.the-variants.{Are, No}
 use Rattle.kit_lines.specs.Forms.{kitForm, blockForm, wireForm}
-use Rattle.line_forms.proofs.Lines.{lines-none, lines-left, leading-some, Left, left-start, left-turn, left-stop, left-full}
+use Rattle.line_forms.proofs.Lines.{lines-none, lines-left, leading-some, left-start, left-turn, left-stop, left-full}
 use Rattle.line_forms.proofs.Steps.{told}
 use Rattle.kit_lines.specs.Kit.{refused, kitWith, kitAfter, kitLines, blockRows, wireRows}
 use Rattle.kit_lines.specs.Scan.{blocksAt, wiresAt, ofLetter, mostOf, Passed, IsFine, Scanned}
