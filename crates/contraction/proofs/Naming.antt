@@ -11,9 +11,9 @@ use borrow.Author.Tests.{eq-eqb, ne-eqb, ltb-true, ltb-false, lt-ltb, le-ltb}
 use Rattle.folds.specs.Fold.{when, countTo, listTo, over, zeros, Filled, Read}
 use Rattle.folds.proofs.Cases.{by, either, eq-or-ne}
 use Rattle.folds.proofs.Sums.{sumTo-zero, countTo-step, countTo-le}
-use Rattle.folds.proofs.Lists.{getD-zeros, listed}
+use Rattle.folds.proofs.Lists.{getD-zeros, length-zeros, listed}
 use Rattle.folds.proofs.Slices.{filled-end}
-use Rattle.contraction.specs.Next.{leads, lowestOf, joinedRow, mateIn, Mated, Short, Named, Joined}
+use Rattle.contraction.specs.Next.{leads, lowestOf, joinedRow, mateIn, Mated, Short, Named, Joined, Renamed}
 use Rattle.contraction.proofs.Next.{lowest, number, length-next, next-at, lowest-le, leads-at, number-at, lowest-together, lowest-hit, lowest-mate, lowest-apart, number-mate, next-clusters}
 
 -- after the first v vertices
@@ -135,3 +135,26 @@ module _ (row mates : List ℕ) (S : Short row) (M : Mated mates) where
         count-is = N .counts ∙ ap (λ (z : ℕ). countTo z (leads (lowestOf row m))) e ∙ sym (next-clusters row m (M .back));
         row-is = filled-end F ∙ ap (λ (z : List ℕ). over z out₀) (sym q);
       }
+
+-- the clusters of the first v vertices have their new numbers in map
+pub record Mapped (row : List ℕ) (f : ℕ → ℕ) (v : ℕ) (map : List ℕ) : Type 0 where
+  pub tall : length map ≡ 512
+  pub is : (w : ℕ) → w < v → getD map (getD row w 0) 0 ≡ f (getD row w 0)
+
+pub mapped-none : (row : List ℕ) (f : ℕ → ℕ) → Mapped row f 0 (zeros 512)
+mapped-none row f = record { tall = length-zeros 512; is = λ w l. absurd (omega arith) }
+
+pub mapped-turn : {row map : List ℕ} {f : ℕ → ℕ} {v c b x : ℕ} → Mapped row f v map → Read row v b c → c < 512 → x ≡ f (getD row v 0) → Mapped row f (v + 1) (set map c x)
+mapped-turn {row} {map} {f} {v} {c} {b} {x} M k l e =
+    record {
+      tall = length-set map c x ∙ M .tall;
+      is = λ w lw. either (eq-or-ne (getD row w 0) c)
+        (λ q. rw (q, getD-set-same map c x 0 (omega (arith, M .tall))) (e ∙ ap f (sym (k .is))))
+        (λ n. getD-set-other map c (getD row w 0) x 0 n ∙ M .is w (omega (arith, at-other w lw n)));
+    }
+  where
+    at-other : (w : ℕ) → w < v + 1 → (getD row w 0 ≡ c → ⊥) → w < v
+    at-other w lw n = either (eq-or-ne w v) (λ q. absurd (n (ap (λ (z : ℕ). getD row z 0) q ∙ sym (k .is)))) (λ q. omega arith)
+
+pub renamed-end : {row map : List ℕ} (m : ℕ → ℕ) {v : ℕ} → length row ≤ v → Mapped row (number row m) v map → Renamed row (joinedRow row m) map
+renamed-end {row} {map} m l M = record { tall = M .tall; is = λ w lw. M .is w (omega arith) ∙ sym (next-at row m w lw) }

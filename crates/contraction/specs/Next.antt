@@ -68,3 +68,8 @@ pub record Named (mates : List ℕ) (c count : ℕ) (names names′ : List ℕ) 
 pub record Joined (row : List ℕ) (m : ℕ → ℕ) (out out′ : List ℕ) (r : ℕ) : Type 0 where
   pub count-is : r ≡ clusters (joinedRow row m)
   pub row-is : out′ ≡ over (joinedRow row m) out
+
+-- map gives each cluster of row its number in next
+pub record Renamed (row next map : List ℕ) : Type 0 where
+  pub tall : length map ≡ 512
+  pub is : (v : ℕ) → v < length row → getD map (getD row v 0) 0 ≡ getD next v 0

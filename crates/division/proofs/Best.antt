@@ -1,30 +1,20 @@
--- The suffix recurrence, and that it gives what the enumeration gives.
-use Prim.Native.Nat.{ℕ, zero, suc, _+_}
+-- The suffix recurrence gives what the enumeration gives.
+use Prim.Native.Nat.{ℕ, zero, suc, _+_, _≤_}
 use mathlib.Core.Path.{_≡_, refl, ap, ap₂, sym, _∙_}
-use mathlib.Core.Bool.{Bool, true, false, _&&_}
+use mathlib.Core.Bool.{Bool, true, false}
 use mathlib.Core.List.{List, [], _∷_, _++_, map}
 use native.Mathlib.Omega.{arith}
 use lib.Dec.{ltb}
 use borrow.Author.Tests.{ltb-true, ltb-false, lt-ltb, le-ltb}
 use Rattle.folds.proofs.Cases.{by}
 use Rattle.division.specs.Division.{Rising, fits, joined, gate, startsFrom, divisions, Pick, none, some, better, given, least}
-use Rattle.division.specs.Table.{bestBelow}
-use Rattle.division.proofs.Picks.{better-assoc, given-better, given-none, given-and}
+use Rattle.division.specs.Table.{bestBelow, ahead, best}
+use Rattle.division.proofs.Picks.{better-assoc, given-better, given-none, given-and, best-ext}
 
 -- what leaves the intervals from y on, where `out` says what leaves one
 unfoldable pub outs : (ℕ → ℕ → ℕ) → ℕ → List ℕ → ℕ
 outs out y [] = 0
 outs out y (x ∷ d) = out y x + outs out x d
-
--- x in front, at w more
-abbrev pub ahead : ℕ → ℕ → Pick (List ℕ) → Pick (List ℕ)
-ahead x w none = none
-ahead x w (some c d) = some (w + c) (x ∷ d)
-
--- the best of j starts after y
-unfoldable pub best : ℕ → (ℕ → ℕ → Bool) → (ℕ → ℕ → ℕ) → ℕ → ℕ → Pick (List ℕ)
-best g ok out zero y = given (ltb y g && ok y g) (some 0 [])
-best g ok out (suc j) y = bestBelow g (λ x. given (ltb y x && ok y x) (ahead x (out y x) (best g ok out j x)))
 
 -- P holds of each member
 abbrev pub Every : (List ℕ → Type 0) → List (List ℕ) → Type 0
@@ -116,3 +106,10 @@ module _ (g : ℕ) (ok : ℕ → ℕ → Bool) (out : ℕ → ℕ → ℕ) where
   pub least-best : (cut : List ℕ → ℕ) → ((d : List ℕ) → Rising g 0 d → cut d ≡ outs out 0 d) → (j : ℕ) → least (fits g ok 0) cut (divisions g (suc j)) ≡ best g ok out j 0
   unfolding divisions
   least-best cut e j = least-ext (fits g ok 0) cut (outs out 0) (Rising g 0) e (startsFrom g j 0) (starts-rise g j 0) ∙ sym (best-is-least j 0)
+
+-- tests that agree give the same
+pub best-same : (g : ℕ) (ok ok′ : ℕ → ℕ → Bool) (out : ℕ → ℕ → ℕ) → ((y x : ℕ) → y ≤ x → x ≤ g → ok y x ≡ ok′ y x) → (j y : ℕ) → best g ok out j y ≡ best g ok′ out j y
+unfolding best
+best-same g ok ok′ out e zero y = by (ltb y g) (λ t. let h = ltb-true y g t in rw (t, e y g (omega arith) (omega arith))) (λ t. rw t)
+best-same g ok ok′ out e (suc j) y =
+    best-ext g _ _ (λ x l. by (ltb y x) (λ t. let h = ltb-true y x t in rw (t, e y x (omega arith) (omega arith), best-same g ok ok′ out e j x)) (λ t. rw t))

@@ -1,87 +1,129 @@
--- The recurrence as a table keeps it: in each cell the least cut and the next start, and following these gives the division.
-use Prim.Native.Nat.{ℕ, zero, suc, _+_, _*_, _≤_, _<_}
+-- The recurrence in numbers: the table holds the cuts, and the starts that these lead to are those of the division.
+use Prim.Native.Nat.{ℕ, zero, suc, _+_, _*_, _≤_, _<_, min}
 use mathlib.Core.Path.{_≡_, refl, ap, ap₂, sym, _∙_}
 use mathlib.Core.Bool.{Bool, true, false, _&&_}
 use mathlib.Core.List.{List, [], _∷_}
+use native.Mathlib.Numerals.{add-one}
 use native.Mathlib.Omega.{arith}
 use lib.Dec.{ltb}
-use lib.ListN.{getD}
-use borrow.Author.Tests.{lt-ltb, le-ltb}
-use Rattle.folds.proofs.Cases.{by}
+use lib.ListN.{length, getD}
+use borrow.Author.Tests.{ltb-true, ltb-false, lt-ltb, eq-eqb, ne-eqb}
+use Rattle.folds.specs.Fold.{pick, firstTo}
+use Rattle.folds.proofs.Cases.{by, both}
+use Rattle.folds.proofs.Searches.{firstTo-found, firstTo-all}
 use Rattle.division.specs.Division.{Pick, none, some, better, given}
-use Rattle.division.specs.Table.{bestBelow, through, cell, cellOf, cellAt, startsBy, noCut}
-use Rattle.division.proofs.Picks.{best-at}
-use Rattle.division.proofs.Best.{ahead, best}
-use Rattle.division.proofs.Wins.{ahead-some}
+use Rattle.division.specs.Table.{bestBelow, ahead, best, noCut, cutIn, lowest, Done, leads, nextBy, startsBy}
+use Rattle.division.proofs.Picks.{best-first}
+use Rattle.division.proofs.Best.{outs}
+use Rattle.division.proofs.Wins.{ahead-some, best-holds}
 
--- the cut, and the first start where there is one
-abbrev head0 : List ℕ → ℕ
-head0 [] = 0
-head0 (x ∷ l) = x
+-- an interval passes the test if one around it does
+abbrev pub Monotone : (ℕ → ℕ → Bool) → Type 0
+Monotone ok = (y z x w : ℕ) → y ≤ z → x ≤ w → ok y w ≡ true → ok z x ≡ true
 
-abbrev pub top : Pick (List ℕ) → Pick ℕ
-top none = none
-top (some c l) = some c (head0 l)
+cut-better : (p q : Pick (List ℕ)) → cutIn p ≤ noCut → cutIn q ≤ noCut → min (cutIn p) (cutIn q) ≡ cutIn (better p q)
+cut-better none q a b = omega arith
+cut-better (some c l) none a b = omega arith
+cut-better (some c l) (some d m) a b = by (ltb d c) (λ t. rw t (omega (arith, ltb-true d c t))) (λ t. rw t (omega (arith, ltb-false d c t)))
 
-top-better : (p q : Pick (List ℕ)) → top (better p q) ≡ better (top p) (top q)
-top-better none q = refl
-top-better (some c l) none = refl
-top-better (some c l) (some d m) = by (ltb d c) (λ e. cc) (λ e. cc)
+cut-ahead : (t : Bool) (x w : ℕ) (p : Pick (List ℕ)) → cutIn (ahead x w p) ≤ noCut → (cutIn (given t (ahead x w p)) ≤ noCut) × (min noCut (pick t (w + cutIn p) noCut) ≡ cutIn (given t (ahead x w p)))
+cut-ahead false x w p h = (omega arith, omega arith)
+cut-ahead true x w none h = (omega arith, omega arith)
+cut-ahead true x w (some c l) h = (omega arith, omega arith)
 
-top-ahead : (b : Bool) (x w : ℕ) (p : Pick (List ℕ)) → top (given b (ahead x w p)) ≡ given b (through x w (top p))
-top-ahead false x w p = refl
-top-ahead true x w none = refl
-top-ahead true x w (some c l) = refl
+-- the least cut of a family
+below-lowest : (n : ℕ) (f : ℕ → Pick (List ℕ)) (h : ℕ → ℕ) → ((x : ℕ) → x < n → (cutIn (f x) ≤ noCut) × (min noCut (h x) ≡ cutIn (f x)))
+    → (cutIn (bestBelow n f) ≤ noCut) × (lowest n h ≡ cutIn (bestBelow n f))
+unfolding bestBelow lowest
+below-lowest zero f h e = (omega arith, refl)
+below-lowest (suc n) f h e =
+    let (i, q) = below-lowest n f h (λ x l. e x (omega arith)) in
+    let (a, b) = e n (omega arith) in
+    let s = cut-better (bestBelow n f) (f n) i a in
+    (omega arith, omega arith)
 
-top-below : (n : ℕ) (f : ℕ → Pick (List ℕ)) (h : ℕ → Pick ℕ) → ((x : ℕ) → top (f x) ≡ h x) → top (bestBelow n f) ≡ bestBelow n h
-unfolding bestBelow
-top-below zero f h e = refl
-top-below (suc n) f h e = top-better (bestBelow n f) (f n) ∙ ap₂ better (top-below n f h e) (e n)
+outs-small : (out : ℕ → ℕ → ℕ) (b : ℕ) → ((y x : ℕ) → out y x ≤ b) → (y : ℕ) (d : List ℕ) → outs out y d ≤ length d * b
+unfolding outs
+outs-small out b h y [] = omega arith
+outs-small out b h y (x ∷ d) = omega (arith, h y x, outs-small out b h x d)
 
-module _ (g : ℕ) (ok : ℕ → ℕ → Bool) (out : ℕ → ℕ → ℕ) where
-  pub cell-is : (j y : ℕ) → top (best g ok out j y) ≡ cell g ok out j y
-  unfolding best cell
-  cell-is zero y = by (ltb y g && ok y g) (λ e. cc) (λ e. cc)
-  cell-is (suc j) y =
-      top-below g _ _ (λ x. top-ahead (ltb y x && ok y x) x (out y x) (best g ok out j x) ∙ ap (λ p. given (ltb y x && ok y x) (through x (out y x) p)) (cell-is j x))
+module _ (g : ℕ) (ok : ℕ → ℕ → Bool) (out : ℕ → ℕ → ℕ) (narrow : (y x : ℕ) → out y x ≤ 67107840) where
+  best-small : (j y c : ℕ) (l : List ℕ) → best g ok out j y ≡ some c l → c ≤ j * 67107840
+  best-small j y c l e =
+      let (i, o) = best-holds g ok out j y c l e in
+      let q = outs-small out 67107840 narrow y l in
+      rw (o, i .1) at q
 
-  best-next : (j y c : ℕ) (l : List ℕ) → best g ok out (suc j) y ≡ some c l → (x : ℕ) × (d : ℕ) × (m : List ℕ) × (x < g) × (best g ok out j x ≡ some d m) × (l ≡ x ∷ m)
+  -- none, or a cut that is below it by all that may leave one interval
+  best-room : (j y x : ℕ) → j < 16 → cutIn (ahead x (out y x) (best g ok out j x)) ≤ noCut
+  best-room j y x h = go (best g ok out j x) refl
+    where
+      go : (p : Pick (List ℕ)) → best g ok out j x ≡ p → cutIn (ahead x (out y x) p) ≤ noCut
+      go none q = omega arith
+      go (some c l) q = omega (arith, best-small j x c l q, narrow y x)
+
+  pub cut-next : (j y : ℕ) → j < 16 → lowest g (λ x. pick (ltb y x && ok y x) (out y x + cutIn (best g ok out j x)) noCut) ≡ cutIn (best g ok out (suc j) y)
   unfolding best
-  best-next j y c l e =
-      let r = best-at g _ c l e in
-      let s = ahead-some (ltb y (r .0) && ok y (r .0)) (r .0) (out y (r .0)) (best g ok out j (r .0)) c l (r .2) in
-      (r .0, s .0, s .1, r .1, s .3, s .4)
+  cut-next j y h = below-lowest g _ _ (λ x l. cut-ahead (ltb y x && ok y x) x (out y x) (best g ok out j x) (best-room j y x h)) .1
 
   best-stop : (y c : ℕ) (l : List ℕ) → best g ok out 0 y ≡ some c l → [] ≡ l
   unfolding best
   best-stop y c l e = by (ltb y g && ok y g) (λ t. cc) (λ t. cc)
 
-  next-is : (j y c x a b : ℕ) (m : List ℕ) → best g ok out j y ≡ some c (x ∷ m) → cellOf a b ≡ cell g ok out j y → b ≡ x
-  unfolding cellOf
-  next-is j y c x a b m e q = by (ltb a noCut) (λ t. cc (cell-is j y)) (λ t. let z : _≡_ {A = ℕ} 0 1 = cc (cell-is j y) in absurd (omega arith))
+  -- reading the table
+  module _ (mono : Monotone ok) (cuts : List ℕ) (D : Done g ok out 0 cuts) where
+    -- the next start, and that those before it cut more
+    best-next : (j y c : ℕ) (l : List ℕ) → best g ok out (suc j) y ≡ some c l
+        → (x : ℕ) × (x < g) × (d : ℕ) × (m : List ℕ) × (y < x) × (best g ok out j x ≡ some d m) × (l ≡ x ∷ m) × (c ≡ out y x + d)
+        × ((z : ℕ) → y < z → z < x → j < 16 → c < out y z + cutIn (best g ok out j z))
+    unfolding best
+    best-next j y c l e =
+        let (x, lx, r, before) = best-first g _ c l e in
+        let (d, m, t, b, q, s) = ahead-some (ltb y x && ok y x) x (out y x) (best g ok out j x) c l r in
+        let (u, o) = both (ltb y x) (ok y x) t in
+        (x, lx, d, m, ltb-true y x u, b, q, s, λ z h k lj. above z (best g ok out j z) refl lj (λ i f p. before z i f k (rw (lt-ltb y z h, mono y y z x (omega arith) (omega arith) o) p)))
+      where
+        above : (z : ℕ) (p : Pick (List ℕ)) → best g ok out j z ≡ p → j < 16 → ((i : ℕ) (f : List ℕ) → ahead z (out y z) (best g ok out j z) ≡ some i f → c < i) → c < out y z + cutIn (best g ok out j z)
+        above z none q h k = omega (arith, ap cutIn q, best-small (suc j) y c l e)
+        above z (some a f) q h k = omega (arith, ap cutIn q, k (out y z + a) (z ∷ f) (ap (ahead z (out y z)) q))
 
-  -- a table that holds the cells, read at position y
-  module _ (cuts nexts : List ℕ) (n : ℕ) (full : (x j : ℕ) → x < g → j ≤ n → cellAt cuts nexts (x * 16 + j) ≡ cell g ok out j x) where
-    starts-is : (j y c : ℕ) (l : List ℕ) → y < g → j ≤ n → best g ok out j y ≡ some c l → startsBy nexts j y ≡ l
-    unfolding startsBy cellAt
-    starts-is zero y c l ly h e = best-stop y c l e
-    starts-is (suc j) y c l ly h e =
-        let (x, d, m, lx, b, q) = best-next j y c l e in
-        rw (next-is (suc j) y c x _ _ m (e ∙ ap (some c) q) (full y (suc j) ly h)) (ap (λ l. x ∷ l) (starts-is j x d m lx (omega arith) b) ∙ sym q)
+    next-is : (j y c : ℕ) (l : List ℕ) → j < 16 → y < g → best g ok out (suc j) y ≡ some c l
+        → (d : ℕ) × (m : List ℕ) × (nextBy g out cuts j y < g) × (best g ok out j (nextBy g out cuts j y) ≡ some d m) × (l ≡ nextBy g out cuts j y ∷ m)
+    unfolding nextBy
+    next-is j y c l h ly e =
+        let (x, lx, d, m, u, b, q, s, before) = best-next j y c l e in
+        let goal : getD cuts (y * 17 + (j + 1)) 0 ≡ c = D .done y (j + 1) (omega arith) ly (omega arith) ∙ ap cutIn (ap (λ (i : ℕ). best g ok out i y) (add-one j) ∙ e) in
+        let hit : out y x + getD cuts (x * 17 + j) 0 ≡ getD cuts (y * 17 + (j + 1)) 0 = omega (arith, goal, D .done x j (omega arith) lx (omega arith), ap cutIn b, s) in
+        let here : leads out cuts j y x ≡ true = rw (lt-ltb y x u) (eq-eqb _ _ hit) in
+        let skip : firstTo x (leads out cuts j y) ≡ x = firstTo-all x _ (λ z k.
+        by (ltb y z)
+        (λ t. rw t (ne-eqb _ _ (miss z (before z (ltb-true y z t) k h) goal (D .done z j (omega arith) (omega arith) (omega arith)))))
+        (λ t. rw t)) in
+        let is : nextBy g out cuts j y ≡ x = firstTo-found g x _ skip here lx in
+        (d, m, rw is lx, rw is b, rw is q)
+      where
+        miss : (z : ℕ) → c < out y z + cutIn (best g ok out j z) → getD cuts (y * 17 + (j + 1)) 0 ≡ c → getD cuts (z * 17 + j) 0 ≡ cutIn (best g ok out j z)
+            → out y z + getD cuts (z * 17 + j) 0 ≡ getD cuts (y * 17 + (j + 1)) 0 → ⊥
+        miss z a b e i = omega arith
+
+    starts-is : (j y c : ℕ) (l : List ℕ) → j < 17 → y < g → best g ok out j y ≡ some c l → startsBy g out cuts j y ≡ l
+    unfolding startsBy
+    starts-is zero y c l h ly e = best-stop y c l e
+    starts-is (suc j) y c l h ly e =
+        let (d, m, lx, b, q) = next-is j y c l (omega arith) ly e in
+        ap (λ l. nextBy g out cuts j y ∷ l) (starts-is j (nextBy g out cuts j y) d m (omega arith) lx b) ∙ sym q
 
     -- a cell with a cut: the least division has it, and its starts follow; a cell with none: there is no division
-    pub read-some : (j y : ℕ) → y < g → j ≤ n → getD cuts (y * 16 + j) 0 < noCut → best g ok out j y ≡ some (getD cuts (y * 16 + j) 0) (startsBy nexts j y)
-    unfolding cellAt cellOf
-    read-some j y ly h lt = go (best g ok out j y) refl (rw (lt-ltb _ noCut lt) at (full y j ly h))
+    pub read-some : (j y : ℕ) → j < 17 → y < g → getD cuts (y * 17 + j) 0 < noCut → best g ok out j y ≡ some (getD cuts (y * 17 + j) 0) (startsBy g out cuts j y)
+    read-some j y h ly lt = go (best g ok out j y) refl
       where
-        go : (p : Pick (List ℕ)) → best g ok out j y ≡ p → some (getD cuts (y * 16 + j) 0) (getD nexts (y * 16 + j) 0) ≡ cell g ok out j y → best g ok out j y ≡ some (getD cuts (y * 16 + j) 0) (startsBy nexts j y)
-        go none q e = let z : _≡_ {A = ℕ} 0 1 = cc (cell-is j y) in absurd (omega arith)
-        go (some d l) q e = let z : d ≡ getD cuts (y * 16 + j) 0 = cc (cell-is j y) in q ∙ ap₂ some z (sym (starts-is j y d l ly h q))
+        go : (p : Pick (List ℕ)) → best g ok out j y ≡ p → best g ok out j y ≡ some (getD cuts (y * 17 + j) 0) (startsBy g out cuts j y)
+        go none q = absurd (omega (arith, D .done y j (omega arith) ly h, ap cutIn q))
+        go (some c l) q = q ∙ ap₂ some (sym (D .done y j (omega arith) ly h ∙ ap cutIn q)) (sym (starts-is j y c l h ly q))
 
-    pub read-none : (j y : ℕ) → y < g → j ≤ n → noCut ≤ getD cuts (y * 16 + j) 0 → best g ok out j y ≡ none
-    unfolding cellAt cellOf
-    read-none j y ly h le = go (best g ok out j y) refl (rw (le-ltb _ noCut le) at (full y j ly h))
+    pub read-none : (j y : ℕ) → j < 17 → y < g → noCut ≤ getD cuts (y * 17 + j) 0 → best g ok out j y ≡ none
+    read-none j y h ly le = go (best g ok out j y) refl
       where
-        go : (p : Pick (List ℕ)) → best g ok out j y ≡ p → none ≡ cell g ok out j y → p ≡ none
-        go none q e = refl
-        go (some d l) q e = let z : _≡_ {A = ℕ} 0 1 = cc (cell-is j y) in absurd (omega arith)
+        go : (p : Pick (List ℕ)) → best g ok out j y ≡ p → best g ok out j y ≡ none
+        go none q = q
+        go (some c l) q = absurd (omega (arith, D .done y j (omega arith) ly h, ap cutIn q, best-small j y c l q))

@@ -5,3 +5,4 @@ pub mod Cells
 pub mod Intervals
 pub mod Tables
 pub mod Spans
+pub mod Fills

@@ -1,13 +1,12 @@
 -- The better of picks, and the best of a bounded family: the first among equals.
-use Prim.Native.Nat.{ℕ, zero, suc, _+_, _≤_, _<_}
+use Prim.Native.Nat.{ℕ, zero, suc, _≤_, _<_}
 use mathlib.Core.Path.{_≡_, refl, sym, ap₂, _∙_}
 use mathlib.Core.Bool.{Bool, true, false, _&&_}
 use mathlib.Core.Logic.{_⊎_, inl, inr}
 use native.Mathlib.Omega.{arith}
-use native.Mathlib.Numerals.{add-one}
 use lib.Dec.{ltb}
 use borrow.Author.Tests.{ltb-true, ltb-false, lt-ltb, le-ltb}
-use Rattle.folds.proofs.Cases.{by, either}
+use Rattle.folds.proofs.Cases.{by, either, last-or}
 use Rattle.division.specs.Division.{Pick, none, some, better, given}
 use Rattle.division.specs.Table.{bestBelow}
 
@@ -46,10 +45,6 @@ module _ {A : Type 0} where
   given-and true b p = refl
   given-and false b p = refl
 
-  pub best-step : (n : ℕ) (f : ℕ → Pick A) → bestBelow (n + 1) f ≡ better (bestBelow n f) (f n)
-  unfolding bestBelow
-  best-step n f = rw add-one
-
   -- it is one of the family
   pub best-at : (n : ℕ) (f : ℕ → Pick A) (c : ℕ) (l : A) → bestBelow n f ≡ some c l → (x : ℕ) × (x < n) × (f x ≡ some c l)
   unfolding bestBelow
@@ -59,15 +54,51 @@ module _ {A : Type 0} where
       (λ h. let r = best-at n f c l (sym h ∙ e) in (r .0, omega arith, r .2))
       (λ h. (n, omega arith, sym h ∙ e))
 
-  -- members that are none do not count
-  pub best-skip : (f : ℕ → Pick A) (j n : ℕ) → j ≤ n → ((i : ℕ) → j ≤ i → i < n → f i ≡ none) → bestBelow n f ≡ bestBelow j f
+  -- no member is below it
+  better-left : (p q : Pick A) (c : ℕ) (l : A) → p ≡ some c l → (b : ℕ) × (m : A) × (better p q ≡ some b m) × (b ≤ c)
+  better-left none q c l e = absurd (some-none e)
+  better-left (some a k) none c l e = (c, l, e, omega arith)
+  better-left (some a k) (some d m) c l e =
+      let z : a ≡ c = cc in
+      by (ltb d a) (λ t. (d, m, cc, omega (arith, ltb-true d a t))) (λ t. (a, k, cc, omega arith))
+
+  better-right : (p q : Pick A) (c : ℕ) (l : A) → q ≡ some c l → (b : ℕ) × (m : A) × (better p q ≡ some b m) × (b ≤ c)
+  better-right none q c l e = (c, l, e, omega arith)
+  better-right (some a k) none c l e = absurd (some-none e)
+  better-right (some a k) (some d m) c l e =
+      let z : d ≡ c = cc in
+      by (ltb d a) (λ t. (d, m, cc, omega arith)) (λ t. (a, k, cc, omega (arith, ltb-false d a t)))
+
+  best-under : (n : ℕ) (f : ℕ → Pick A) (z d : ℕ) (m : A) → z < n → f z ≡ some d m → (c : ℕ) × (l : A) × (bestBelow n f ≡ some c l) × (c ≤ d)
   unfolding bestBelow
-  best-skip f j zero l z = let q : j ≡ 0 = omega arith in rw q
-  best-skip f j (suc n) l z =
-      by (ltb j (suc n))
-      (λ t. let h = ltb-true j (suc n) t in
-      rw (z n (omega arith) (omega arith)) (better-none (bestBelow n f) ∙ best-skip f j n (omega arith) (λ i li gi. z i li (omega arith))))
-      (λ t. let q : j ≡ suc n = omega (arith, ltb-false j (suc n) t) in rw q)
+  best-under zero f z d m h e = absurd (omega arith)
+  best-under (suc n) f z d m h e =
+      either (last-or h)
+      (λ q. better-right (bestBelow n f) (f n) d m (rw q at e))
+      (λ k.
+      let (c, l, r, o) = best-under n f z d m k e in
+      let (b, x, s, i) = better-left (bestBelow n f) (f n) c l r in
+      (b, x, s, omega arith))
+
+  -- it is one of the family, and those before it are above it
+  pub best-first : (n : ℕ) (f : ℕ → Pick A) (c : ℕ) (l : A) → bestBelow n f ≡ some c l → (x : ℕ) × (x < n) × (f x ≡ some c l) × ((z d : ℕ) (m : A) → z < x → f z ≡ some d m → c < d)
+  unfolding bestBelow
+  best-first zero f c l e = absurd (some-none e)
+  best-first (suc n) f c l e = go (bestBelow n f) (f n) refl refl e (λ r. let (x, h, s, i) = best-first n f c l r in (x, omega arith, s, i))
+    where
+      First : Type 0
+      First = (x : ℕ) × (x < suc n) × (f x ≡ some c l) × ((z d : ℕ) (m : A) → z < x → f z ≡ some d m → c < d)
+
+      go : (p q : Pick A) → bestBelow n f ≡ p → f n ≡ q → better p q ≡ some c l → (bestBelow n f ≡ some c l → First) → First
+      go none q r s b before =
+          (n, omega arith, s ∙ b, λ z d m h i. let (a, k, o, _) = best-under n f z d m h i in absurd (some-none (sym r ∙ o)))
+      go (some a k) none r s b before = before (r ∙ b)
+      go (some a k) (some o m) r s b before =
+          by (ltb o a)
+          (λ t.
+          let e : o ≡ c = cc in
+          (n, omega arith, (cc), λ z d i h j. let (u, v, w, y) = best-under n f z d i h j in let x : a ≡ u = cc in omega (arith, ltb-true o a t)))
+          (λ t. before (r ∙ (cc)))
 
   pub best-ext : (n : ℕ) (f h : ℕ → Pick A) → ((x : ℕ) → x < n → f x ≡ h x) → bestBelow n f ≡ bestBelow n h
   unfolding bestBelow

@@ -23,7 +23,7 @@ upward P y g b s zero l h = let q : y ≡ 0 = omega arith in rw q at b
 upward P y g b s (suc x) l h =
     either (eq-or-lt-of-le l) (λ e. rw e at b) (λ k. rw add-one at (s x (omega arith) (omega arith) (upward P y g b s x (omega arith) (omega arith))))
 
-span-none : (l : List ℕ) (y : ℕ) → span l y y ≡ 0
+pub span-none : (l : List ℕ) (y : ℕ) → span l y y ≡ 0
 unfolding span
 span-none l y = sumTo-none y _ (λ i h. rw (lt-leb y i h))
 

@@ -1,91 +1,76 @@
--- Laws of the code's table: an offer taken or not, all offers of a next start, a sweep over the next starts.
-use Prim.Native.Nat.{ℕ, zero, suc, _+_, _-_, _*_, _≤_, _<_}
-use mathlib.Core.Path.{_≡_, refl, ap, ap₂, sym, _∙_}
-use mathlib.Core.Bool.{Bool}
+-- Laws of the code's table: the offers of a next start, a sweep over the next starts, the cuts of a position stored.
+use Prim.Native.Nat.{ℕ, zero, suc, _+_, _-_, _*_, _≤_, _<_, min}
+use mathlib.Core.Path.{_≡_, refl, ap, sym, _∙_}
+use mathlib.Core.Bool.{Bool, true, false}
+use mathlib.Core.Logic.{_⊎_}
 use mathlib.Core.List.{List, [], _∷_}
 use native.Mathlib.Omega.{arith}
-use lib.Dec.{ltb, leb}
-use lib.ListN.{length, getD, set, length-set, take, replicate, getD-replicate, length-replicate}
+use lib.Dec.{ltb, leb, eqb}
+use lib.ListN.{length, getD, set, length-set, take, replicate, getD-replicate}
 use lib.Seq.{getD-set-same, getD-set-other, length-take-le, getD-take}
-use borrow.Author.Tests.{ltb-true, ltb-false, lt-ltb, le-ltb, le-leb, lt-leb}
-use Rattle.folds.specs.Fold.{when, firstTo, zeros}
+use borrow.Author.Tests.{ltb-true, ltb-false, lt-ltb, le-ltb, le-leb, lt-leb, leb-true, leb-false, eqb-true, eqb-false}
+use Rattle.folds.specs.Fold.{when, firstTo}
 use Rattle.folds.proofs.Searches.{firstTo-ext, firstTo-le}
-use Rattle.folds.proofs.Lists.{getD-past, getD-zeros, length-zeros}
-use Rattle.folds.proofs.Cases.{by, either, eq-or-ne}
-use Rattle.folds.proofs.Sums.{sumTo-step, sumTo-none, sumTo-less}
-use Rattle.division.specs.Division.{Pick, better}
-use Rattle.division.specs.Table.{bestBelow, through, cellOf, cellAt, Table, Offered, Relaxed, span, onward, Blank, Swept, Column, cell, Done, noCut, startsBy, Within}
-use Rattle.division.proofs.Picks.{best-step, best-skip, best-ext}
+use Rattle.folds.proofs.Lists.{getD-past, set-at-most}
+use Rattle.folds.proofs.Cases.{by, either, eq-or-ne, when-more}
+use Rattle.folds.proofs.Sums.{sumTo-step, sumTo-none, sumTo-less, sumTo-mono, sumTo-ext, sumTo-add, sumTo-only}
+use Rattle.division.specs.Table.{best, noCut, cutIn, lowest, Low, Relaxed, span, within, Weights, onward, Lanes, Stored, Table, Column, Done, nextBy, startsBy, Within}
 use Rattle.division.proofs.Intervals.{interval-first}
+use Rattle.division.proofs.Cells.{cut-next}
 
--- an offer of the cut c against the cut a that stands there
-cell-less : (a n c x w b m : ℕ) → a ≤ noCut → c ≡ w + b → c < a → cellOf c x ≡ better (cellOf a n) (through x w (cellOf b m))
-unfolding cellOf
-cell-less a n c x w b m t e h =
-    rw (e, lt-ltb (w + b) noCut (omega arith), lt-ltb b noCut (omega arith))
-    (by (ltb a noCut) (λ s. rw (s, lt-ltb (w + b) a (omega arith))) (λ s. rw s))
+-- offers to the lanes
+pub keep-yes : (b x : ℕ) {t : Bool} → t ≡ ltb x b → t ≡ true → x ≡ min b x
+keep-yes b x e h = omega (arith, ltb-true x b (sym e ∙ h))
 
-cell-keep : (a n x w b m : ℕ) → a ≤ w + b → (b < noCut → w + b < noCut) → cellOf a n ≡ better (cellOf a n) (through x w (cellOf b m))
-unfolding cellOf
-cell-keep a n x w b m h s =
-    by (ltb b noCut)
-    (λ t. let z = s (ltb-true b noCut t) in rw (t, lt-ltb a noCut (omega arith), le-ltb (w + b) a h))
-    (λ t. rw t (by (ltb a noCut) (λ u. rw u) (λ u. rw u)))
+pub keep-no : (b x : ℕ) {t : Bool} → t ≡ ltb x b → t ≡ false → b ≡ min b x
+keep-no b x e h = omega (arith, ltb-false x b (sym e ∙ h))
 
-module _ (cuts nexts : List ℕ) (T : Table cuts nexts) (y x w j : ℕ) (lt : y < x) (lx : x < 512) (lj : j < 15) (lw : w ≤ 67107840) where
-  pub offer-room : getD cuts (x * 16 + j) 0 < noCut → w + getD cuts (x * 16 + j) 0 ≤ (j + 1) * 67107840
-  offer-room h = omega (arith, T .low x j (omega arith) h)
+pub relaxed-none : {at w : ℕ} {cuts l : List ℕ} → length l ≡ 16 → Relaxed at w cuts 0 l l
+relaxed-none t = record { tall = t; here = λ j h. absurd (omega arith); other = λ j h. refl }
 
-  pub offered-no : getD cuts (y * 16 + (j + 1)) 0 ≤ w + getD cuts (x * 16 + j) 0 → Offered y x w j cuts nexts cuts nexts
-  unfolding cellAt
-  offered-no h =
-      record {
-        table = T;
-        here = cell-keep (getD cuts (y * 16 + (j + 1)) 0) (getD nexts (y * 16 + (j + 1)) 0) x w (getD cuts (x * 16 + j) 0) (getD nexts (x * 16 + j) 0) h (λ l. omega (arith, offer-room l));
-        other = λ i n. refl;
-      }
-
-  pub offered-yes : w + getD cuts (x * 16 + j) 0 < getD cuts (y * 16 + (j + 1)) 0
-      → Offered y x w j cuts nexts (set cuts (y * 16 + (j + 1)) (w + getD cuts (x * 16 + j) 0)) (set nexts (y * 16 + (j + 1)) x)
-  unfolding cellAt
-  offered-yes h =
-      let at = y * 16 + (j + 1) in
-      let c = w + getD cuts (x * 16 + j) 0 in
-      let lc : at < length cuts = omega (arith, T .tall) in
-      let ln : at < length nexts = omega (arith, T .same) in
-      let small = offer-room (omega (arith, T .top at)) in
-      record {
-        table = record {
-          tall = length-set cuts at c ∙ T .tall;
-          same = length-set nexts at x ∙ T .same;
-          top = λ i. either (eq-or-ne i at) (λ e. rw (e, getD-set-same cuts at c 0 lc) (omega (arith, T .top at))) (λ n. rw (getD-set-other cuts at i c 0 n) (T .top i));
-          near = λ i. either (eq-or-ne i at) (λ e. rw (e, getD-set-same nexts at x 0 ln) lx) (λ n. rw (getD-set-other nexts at i x 0 n) (T .near i));
-          low = λ z i li l.
-              either (eq-or-ne (z * 16 + i) at)
-              (λ e. rw (e, getD-set-same cuts at c 0 lc) (omega arith))
-              (λ n. rw (getD-set-other cuts at (z * 16 + i) c 0 n) (T .low z i li (rw (getD-set-other cuts at (z * 16 + i) c 0 n) at l)));
-        };
-        here = rw (getD-set-same cuts at c 0 lc, getD-set-same nexts at x 0 ln)
-            (cell-less (getD cuts at 0) (getD nexts at 0) c x w (getD cuts (x * 16 + j) 0) (getD nexts (x * 16 + j) 0) (T .top at) refl h);
-        other = λ i n. rw (getD-set-other cuts at i c 0 n, getD-set-other nexts at i x 0 n);
-      }
-
-pub relaxed-none : {y x w : ℕ} {cuts nexts : List ℕ} → Table cuts nexts → Relaxed y x w 0 cuts nexts cuts nexts
-relaxed-none T = record { table = T; here = λ j l. absurd (omega arith); other = λ i h. refl }
-
-pub relaxed-turn : {y x w n : ℕ} {cuts nexts cuts′ nexts′ cuts″ nexts″ : List ℕ} → y < x → n < 15
-    → Relaxed y x w n cuts nexts cuts′ nexts′ → Offered y x w n cuts′ nexts′ cuts″ nexts″ → Relaxed y x w (n + 1) cuts nexts cuts″ nexts″
-relaxed-turn {y} {x} {w} {n} lt ln R O =
+pub relaxed-turn : {at w n r : ℕ} {cuts l l′ : List ℕ} → n < 16 → Relaxed at w cuts n l l′ → r ≡ min (getD l′ n 0) (w + getD cuts (at + n) 0) → Relaxed at w cuts (n + 1) l (set l′ n r)
+relaxed-turn {at} {w} {n} {r} {cuts} {l} {l′} h R e =
     record {
-      table = O .table;
-      here = λ j l.
+      tall = length-set l′ n r ∙ R .tall;
+      here = λ j k.
           either (eq-or-ne j n)
-          (λ e. rw e
-          (O .here
-          ∙ ap₂ (λ p q. better p (through x w q)) (R .other (y * 16 + (n + 1)) (λ i li q. omega arith)) (R .other (x * 16 + n) (λ i li q. omega arith))))
-          (λ ne. O .other (y * 16 + (j + 1)) (λ q. ne (omega arith)) ∙ R .here j (omega arith));
-      other = λ i h. O .other i (λ q. h n (omega arith) q) ∙ R .other i (λ j l q. h j (omega arith) q);
+          (λ q. rw (q, getD-set-same l′ n r 0 (omega (arith, R .tall))) (e ∙ rw (R .other n (omega arith))))
+          (λ q. getD-set-other l′ n j r 0 q ∙ R .here j (omega arith));
+      other = λ j k. getD-set-other l′ n j r 0 (λ q. omega arith) ∙ R .other j (omega arith);
     }
+
+pub relaxed-low : {at w n : ℕ} {cuts l l′ : List ℕ} → Low l → Relaxed at w cuts n l l′ → Low l′
+relaxed-low {at} {w} {n} {cuts} {l} {l′} L R =
+    record {
+      low = λ i.
+          by (ltb i n)
+          (λ t. omega (arith, L .low i, R .here i (ltb-true i n t)))
+          (λ t. omega (arith, L .low i, R .other i (ltb-false i n t)));
+    }
+
+-- the least of a family: members that are none do not count
+lowest-le : (n : ℕ) (f : ℕ → ℕ) → lowest n f ≤ noCut
+unfolding lowest
+lowest-le zero f = omega arith
+lowest-le (suc n) f = omega (arith, lowest-le n f)
+
+lowest-skip : (f : ℕ → ℕ) (j n : ℕ) → j ≤ n → ((i : ℕ) → j ≤ i → i < n → f i ≡ noCut) → lowest n f ≡ lowest j f
+unfolding lowest
+lowest-skip f j zero l z = let q : j ≡ 0 = omega arith in rw q
+lowest-skip f j (suc n) l z =
+    by (ltb j (suc n))
+    (λ t. let h = ltb-true j (suc n) t in
+    omega (arith, z n (omega arith) (omega arith), lowest-le n f, lowest-skip f j n (omega arith) (λ i li gi. z i li (omega arith))))
+    (λ t. let q : j ≡ suc n = omega (arith, ltb-false j (suc n) t) in rw q)
+
+lowest-ext : (n : ℕ) (f h : ℕ → ℕ) → ((x : ℕ) → x < n → f x ≡ h x) → lowest n f ≡ lowest n h
+unfolding lowest
+lowest-ext zero f h e = refl
+lowest-ext (suc n) f h e = omega (arith, lowest-ext n f h (λ x l. e x (omega arith)), e n (omega arith))
+
+lowest-step : (n : ℕ) (f : ℕ → ℕ) → lowest (n + 1) f ≡ min (lowest n f) (f n)
+unfolding lowest
+lowest-step n f = let q : n + 1 ≡ suc n = omega arith in ap (λ (i : ℕ). lowest i f) q
 
 -- sums of entries from y on
 pub span-start : (l : List ℕ) (y : ℕ) → getD l y 0 ≡ span l y (y + 1)
@@ -102,142 +87,176 @@ pub span-mono : (l : List ℕ) (y x z : ℕ) → x ≤ z → span l y x ≤ span
 unfolding span
 span-mono l y x z h = sumTo-less (λ i. when (leb y i) (getD l i 0)) x z h
 
-module _ (bound n y : ℕ) (cost away into cuts nexts : List ℕ) (ln : n < 16) where
-  abbrev going : ℕ → ℕ → Pick ℕ
-  going j = onward bound y cost away into (λ z. cellAt cuts nexts (z * 16 + j))
+pub span-narrow : (l : List ℕ) (y z x : ℕ) → y ≤ z → span l z x ≤ span l y x
+unfolding span
+span-narrow l y z x h = sumTo-mono x _ _ (λ i _. when-more (leb z i) (leb y i) (getD l i 0) (λ t. le-leb y i (omega (arith, leb-true z i t))))
 
-  pub swept-start : Blank n y cuts nexts → Swept bound n y (y + 1) cost away into cuts nexts cuts nexts
-  unfolding onward bestBelow
-  swept-start B =
+pub span-front : (l : List ℕ) (y x : ℕ) → y < x → span l y x ≡ getD l y 0 + span l (y + 1) x
+unfolding span
+span-front l y x h = sumTo-ext x _ _ (λ i _. one i (getD l i 0)) ∙ sumTo-add x _ _ ∙ ap (λ (s : ℕ). s + span l (y + 1) x) (sumTo-only x y (λ i. getD l i 0) h)
+  where
+    one : (i w : ℕ) → when (leb y i) w ≡ when (eqb y i) w + when (leb (y + 1) i) w
+    one i w =
+        by (eqb y i)
+        (λ t. let e = eqb-true y i t in rw (t, le-leb y i (omega arith), lt-leb (y + 1) i (omega arith)) (omega arith))
+        (λ t.
+        let n = eqb-false y i t in
+        by (leb y i)
+        (λ u. let a = leb-true y i u in rw (t, u, le-leb (y + 1) i (omega arith)) (omega arith))
+        (λ u. let a = leb-false y i u in rw (t, u, lt-leb (y + 1) i (omega arith))))
+
+pub within-yes : (cost : List ℕ) (bound y x : ℕ) → span cost y x ≤ bound → within cost bound y x ≡ true
+unfolding within
+within-yes cost bound y x h = le-leb (span cost y x) bound h
+
+pub within-no : (cost : List ℕ) (bound y x : ℕ) → bound < span cost y x → within cost bound y x ≡ false
+unfolding within
+within-no cost bound y x h = lt-leb (span cost y x) bound h
+
+within-is : (cost : List ℕ) (bound y x : ℕ) → within cost bound y x ≡ leb (span cost y x) bound
+unfolding within
+within-is cost bound y x = refl
+
+-- the interval from y on, as it grows: what it costs, and what leaves it
+module _ {g y : ℕ} {cost away into : List ℕ} (W : Weights g y cost away into) where
+  pub load-next : (x load : ℕ) → y < x → x < g → load ≡ span cost y x → (load + getD cost x 0 ≡ span cost y (x + 1)) × (load + getD cost x 0 ≤ 33553920)
+  load-next x load l h e = let q = span-next cost y x (omega arith) in (omega arith, omega (arith, W .light (x + 1) (omega arith) (omega arith)))
+
+  pub out-first : y < g → getD into y 0 ≤ getD away y 0
+  out-first h = omega (arith, W .covers (y + 1) (omega arith) (omega arith), span-start away y, span-start into y)
+
+  pub out-next : (x out : ℕ) → y < x → x < g → out + span into y x ≡ span away y x
+      → (out ≤ 67107840) × (out + getD away x 0 ≤ 67107840 + 67107840) × (getD into x 0 ≤ out + getD away x 0) × (out + getD away x 0 - getD into x 0 + span into y (x + 1) ≡ span away y (x + 1))
+  out-next x out l h e =
+      let a = span-next away y x (omega arith) in
+      let b = span-next into y x (omega arith) in
+      let n = W .narrow (x + 1) (omega arith) (omega arith) in
+      let k = W .narrow x (omega arith) (omega arith) in
+      let v = W .covers (x + 1) (omega arith) (omega arith) in
+      (omega arith, omega arith, omega arith, omega arith)
+
+module _ (bound y : ℕ) (cost away into cuts : List ℕ) where
+  abbrev going : ℕ → ℕ → ℕ
+  going j = onward bound y cost away into (λ z. getD cuts (z * 17 + j) 0)
+
+  pub lanes-none : Lanes bound y (y + 1) cost away into cuts (replicate 16 noCut)
+  unfolding onward lowest
+  lanes-none =
       record {
-        table = B .table;
-        first = let q : y * 16 ≡ y * 16 + 0 = omega arith in ap (cellAt cuts nexts) q ∙ B .blank 0 (omega arith);
-        here = λ j l. B .blank (j + 1) (omega arith) ∙ sym (best-skip (going j) 0 (y + 1) (omega arith) (λ i li h. rw (le-ltb y i (omega arith))));
-        other = λ z j l h. refl;
+        tall = refl;
+        low = record { low = λ i. by (ltb i 16) (λ t. omega (arith, blank i (ltb-true i 16 t))) (λ t. omega (arith, getD-past (replicate 16 noCut) i (ltb-false i 16 t))) };
+        here = λ j h. blank j h ∙ sym (lowest-skip (going j) 0 (y + 1) (omega arith) (λ i li k. rw (le-ltb y i (omega arith))));
       }
+    where
+      blank : (i : ℕ) → i < 16 → getD (replicate 16 noCut) i 0 ≡ noCut
+      blank i h = getD-replicate 16 i noCut 0 h
 
-  module _ (x : ℕ) (cuts′ nexts′ : List ℕ) (lt : y < x) (S : Swept bound n y x cost away into cuts nexts cuts′ nexts′) where
-    going-at : (j w : ℕ) → span cost y x ≤ bound → w + span into y x ≡ span away y x → going j x ≡ through x w (cellAt cuts nexts (x * 16 + j))
+  module _ (x : ℕ) (l : List ℕ) (lt : y < x) (L : Lanes bound y x cost away into cuts l) where
+    pub lanes-turn : (w : ℕ) (l′ : List ℕ) → span cost y x ≤ bound → w + span into y x ≡ span away y x → Relaxed (x * 17) w cuts 16 l l′ → Lanes bound y (x + 1) cost away into cuts l′
     unfolding onward
-    going-at j w h e =
+    lanes-turn w l′ h e R =
         let q : span away y x - span into y x ≡ w = omega arith in
-        rw (lt-ltb y x lt, le-leb (span cost y x) bound h, q)
-
-    pub swept-turn : (w : ℕ) (cuts″ nexts″ : List ℕ) → span cost y x ≤ bound → w + span into y x ≡ span away y x → Relaxed y x w n cuts′ nexts′ cuts″ nexts″
-        → Swept bound n y (x + 1) cost away into cuts nexts cuts″ nexts″
-    swept-turn w cuts″ nexts″ h e R =
         record {
-          table = R .table;
-          first = R .other (y * 16) (λ j l q. omega arith) ∙ S .first;
-          here = λ j l.
-              R .here j l
-              ∙ ap₂ (λ p q. better p (through x w q)) (S .here j l) (S .other x j (omega arith) (λ q. omega arith))
-              ∙ ap (better (bestBelow x (going j))) (sym (going-at j w h e))
-              ∙ sym (best-step x (going j));
-          other = λ z i l ne. R .other (z * 16 + i) (λ j lj q. ne (omega arith)) ∙ S .other z i l ne;
+          tall = R .tall;
+          low = relaxed-low (L .low) R;
+          here = λ j k.
+              let here : going j x ≡ w + getD cuts (x * 17 + j) 0 = rw (lt-ltb y x lt, within-yes cost bound y x h, q) in
+              omega (arith, R .here j k, L .here j k, lowest-step x (going j), here);
         }
 
     -- the interval has grown past the bound
-    pub swept-over : (g : ℕ) → x ≤ g → bound < span cost y x → Column bound n y g cost away into cuts nexts cuts′ nexts′
+    pub lanes-over : (g : ℕ) → x ≤ g → bound < span cost y x → Lanes bound y g cost away into cuts l
     unfolding onward
-    swept-over g l h =
+    lanes-over g k h =
         record {
-          table = S .table;
-          first = S .first ∙ rw (lt-leb (span cost y g) bound (omega (arith, span-mono cost y x g l)));
+          tall = L .tall;
+          low = L .low;
           here = λ j lj.
-              S .here j lj
-              ∙ sym (best-skip (going j) x g l (λ i li gi. rw (lt-ltb y i (omega arith), lt-leb (span cost y i) bound (omega (arith, span-mono cost y x i li)))));
-          other = S .other;
+              L .here j lj
+              ∙ sym (lowest-skip (going j) x g k (λ i li gi. rw (lt-ltb y i (omega arith), within-no cost bound y i (omega (arith, span-mono cost y x i li)))));
         }
 
-    -- the interval has come to the end
-    pub swept-end : (g : ℕ) → x ≡ g → y < 512 → span cost y x ≤ bound → Column bound n y g cost away into cuts nexts (set cuts′ (y * 16) 0) (set nexts′ (y * 16) 0)
-    unfolding cellAt cellOf
-    swept-end g e ly h =
-        let at = y * 16 in
-        let lc : at < length cuts′ = omega (arith, S .table .tall) in
-        let ln′ : at < length nexts′ = omega (arith, S .table .same) in
-        record {
-          table = record {
-            tall = length-set cuts′ at 0 ∙ S .table .tall;
-            same = length-set nexts′ at 0 ∙ S .table .same;
-            top = λ i. either (eq-or-ne i at) (λ q. rw (q, getD-set-same cuts′ at 0 0 lc) (omega arith)) (λ q. rw (getD-set-other cuts′ at i 0 0 q) (S .table .top i));
-            near = λ i. either (eq-or-ne i at) (λ q. rw (q, getD-set-same nexts′ at 0 0 ln′) (omega arith)) (λ q. rw (getD-set-other nexts′ at i 0 0 q) (S .table .near i));
-            low = λ z j l k.
-                either (eq-or-ne (z * 16 + j) at)
-                (λ q. rw (q, getD-set-same cuts′ at 0 0 lc) (omega arith))
-                (λ q. rw (getD-set-other cuts′ at (z * 16 + j) 0 0 q) (S .table .low z j l (rw (getD-set-other cuts′ at (z * 16 + j) 0 0 q) at k)));
-          };
-          first = rw (getD-set-same cuts′ at 0 0 lc, getD-set-same nexts′ at 0 0 ln′, le-leb (span cost y g) bound (rw e at h));
-          here = λ j l.
-              rw (getD-set-other cuts′ at (at + (j + 1)) 0 0 (λ q. omega arith), getD-set-other nexts′ at (at + (j + 1)) 0 0 (λ q. omega arith), ← e) (S .here j l);
-          other = λ z j l ne.
-              rw (getD-set-other cuts′ at (z * 16 + j) 0 0 (λ q. ne (omega arith)), getD-set-other nexts′ at (z * 16 + j) 0 0 (λ q. ne (omega arith))) (S .other z j l ne);
-        }
+-- lanes stored
+pub stored-none : {at : ℕ} {lanes cuts : List ℕ} → Low cuts → Stored at 0 lanes cuts cuts
+stored-none L = record { tall = refl; low = L; here = λ j h. absurd (omega arith); other = λ i h. refl }
 
--- a table with nothing in it
-pub done-start : (g : ℕ) (ok : ℕ → ℕ → Bool) (out : ℕ → ℕ → ℕ) (n : ℕ) → g ≤ 512 → Done g ok out n g (replicate 8208 noCut) (zeros 8208)
-unfolding cellAt cellOf
-done-start g ok out n small =
-    let cuts : List ℕ = replicate 8208 noCut in
-    let tall : length cuts ≡ 8208 = length-replicate 8208 noCut in
-    let full : (i : ℕ) → i < 8208 → getD cuts i 0 ≡ noCut = λ i l. getD-replicate 8208 i noCut 0 l in
+pub stored-turn : {at n : ℕ} {lanes cuts cuts′ : List ℕ} → Low lanes → Table cuts → at ≤ 8704 → n < 16 → Stored at n lanes cuts cuts′ → Stored at (n + 1) lanes cuts (set cuts′ (at + (n + 1)) (getD lanes n 0))
+stored-turn {at} {n} {lanes} {cuts} {cuts′} L T la ln S =
+    let i = at + (n + 1) in
+    let r = getD lanes n 0 in
     record {
-      table = record {
-        tall = tall;
-        same = length-zeros 8208;
-        top = λ i. by (ltb i 8208) (λ t. omega (arith, full i (ltb-true i 8208 t))) (λ t. omega (arith, ltb-false i 8208 t, getD-past cuts i (omega (arith, tall, ltb-false i 8208 t))));
-        near = λ i. omega (arith, getD-zeros 8208 i);
-        low = λ z j l h.
-            by (ltb (z * 16 + j) 8208) (λ t. absurd (omega (arith, full (z * 16 + j) (ltb-true (z * 16 + j) 8208 t))))
-            (λ t. omega (arith, getD-past cuts (z * 16 + j) (omega (arith, tall, ltb-false (z * 16 + j) 8208 t))));
-      };
-      done = λ x j l lx. absurd (omega arith);
-      blank = λ x j l lj. rw (full (x * 16 + j) (omega arith));
+      tall = length-set cuts′ i r ∙ S .tall;
+      low = record { low = set-at-most cuts′ i r noCut noCut (omega arith) (L .low n) (S .low .low) };
+      here = λ j k.
+          either (eq-or-ne j n)
+          (λ q. rw q (getD-set-same cuts′ i r 0 (omega (arith, S .tall, T .tall))))
+          (λ q. getD-set-other cuts′ i (at + (j + 1)) r 0 (λ e. q (omega arith)) ∙ S .here j (omega arith));
+      other = λ z h. getD-set-other cuts′ i z r 0 (λ e. h n (omega arith) e) ∙ S .other z (λ j k e. h j (omega arith) e);
     }
 
--- the cells of y, filled by a sweep over weights that are those of the intervals from y on
-pub done-next : {g n y bound : ℕ} {ok : ℕ → ℕ → Bool} {out : ℕ → ℕ → ℕ} {cost away into cuts nexts cuts′ nexts′ : List ℕ} → y < g → n < 16
-    → ((x : ℕ) → y ≤ x → x ≤ g → leb (span cost y x) bound ≡ ok y x) → ((x : ℕ) → y ≤ x → x ≤ g → span away y x ≡ out y x + span into y x)
-    → Done g ok out n (y + 1) cuts nexts → Column bound n y g cost away into cuts nexts cuts′ nexts′ → Done g ok out n y cuts′ nexts′
-unfolding cell onward
-done-next {g} {n} {y} {bound} {ok} {out} {cost} {away} {into} {cuts} {nexts} {cuts′} {nexts′} ly ln tests leaves D C =
+pub column-is : {bound rest y g r : ℕ} {cost away into lanes cuts cuts′ : List ℕ} → y < 512 → Table cuts → Lanes bound y g cost away into cuts lanes → Stored (y * 17) 16 lanes cuts cuts′
+    → ((bound < rest) × (r ≡ noCut)) ⊎ ((rest ≤ bound) × (r ≡ 0)) → Column bound rest y g cost away into cuts (set cuts′ (y * 17) r)
+column-is {bound} {rest} {y} {g} {r} {cost} {away} {into} {lanes} {cuts} {cuts′} ly T L S h =
+    let at = y * 17 in
+    let lr : r ≤ noCut = either h (λ a. omega (arith, a .1)) (λ a. omega (arith, a .1)) in
+    record {
+      table = record { tall = length-set cuts′ at r ∙ S .tall ∙ T .tall; low = record { low = set-at-most cuts′ at r noCut noCut (omega arith) lr (S .low .low) } };
+      last = getD-set-same cuts′ at r 0 (omega (arith, S .tall, T .tall)) ∙ either h (λ a. rw (lt-leb rest bound (a .0)) (a .1)) (λ a. rw (le-leb rest bound (a .0)) (a .1));
+      here = λ j h. getD-set-other cuts′ at (at + (j + 1)) r 0 (λ q. omega arith) ∙ S .here j h ∙ L .here j (omega arith);
+      other = λ z j h n. getD-set-other cuts′ at (z * 17 + j) r 0 (λ q. n (omega arith)) ∙ S .other (z * 17 + j) (λ i k q. n (omega arith));
+    }
+
+-- the cuts of y, filled by a sweep over weights that are those of the intervals from y on
+pub done-none : {g : ℕ} {ok : ℕ → ℕ → Bool} {out : ℕ → ℕ → ℕ} {cuts : List ℕ} → Table cuts → Done g ok out g cuts
+done-none T = record { table = T; done = λ x j l h k. absurd (omega arith) }
+
+pub done-next : {g y bound rest : ℕ} {out : ℕ → ℕ → ℕ} {cost away into cuts cuts′ : List ℕ} → y < g → rest ≡ span cost y g → ((y x : ℕ) → out y x ≤ 67107840)
+    → ((x : ℕ) → y ≤ x → x ≤ g → span away y x ≡ out y x + span into y x)
+    → Done g (within cost bound) out (y + 1) cuts → Column bound rest y g cost away into cuts cuts′ → Done g (within cost bound) out y cuts′
+unfolding best onward
+done-next {g} {y} {bound} {rest} {out} {cost} {away} {into} {cuts} {cuts′} ly e narrow leaves D C =
     record {
       table = C .table;
-      done = λ x j l lx lj. either (eq-or-ne x y) (λ e. rw e (here j lj)) (λ ne. C .other x j (omega arith) ne ∙ D .done x j (omega arith) lx lj);
-      blank = λ x j l lj. C .other x j lj (λ e. omega arith) ∙ D .blank x j (omega arith) lj;
+      done = λ x j l lx lj. either (eq-or-ne x y) (λ e. rw e (here j lj)) (λ ne. C .other x j lj ne ∙ D .done x j (omega arith) lx lj);
     }
   where
-    here : (j : ℕ) → j ≤ n → cellAt cuts′ nexts′ (y * 16 + j) ≡ cell g ok out j y
-    here zero l = let q : y * 16 + 0 ≡ y * 16 = omega arith in ap (cellAt cuts′ nexts′) q ∙ C .first ∙ rw (lt-ltb y g ly, tests g (omega arith) (omega arith))
+    here : (j : ℕ) → j < 17 → getD cuts′ (y * 17 + j) 0 ≡ cutIn (best g (within cost bound) out j y)
+    here zero l =
+        let q : y * 17 + 0 ≡ y * 17 = omega arith in
+        rw (q, C .last, e, lt-ltb y g ly, ← within-is cost bound y g) (by (within cost bound y g) (λ t. rw t) (λ t. rw t))
     here (suc j) l =
-        let q : y * 16 + suc j ≡ y * 16 + (j + 1) = omega arith in
-        ap (cellAt cuts′ nexts′) q ∙ C .here j (omega arith)
-        ∙ best-ext g _ _ (λ x lx.
+        let q : y * 17 + suc j ≡ y * 17 + (j + 1) = omega arith in
+        ap (λ (i : ℕ). getD cuts′ i 0) q ∙ C .here j (omega arith)
+        ∙ lowest-ext g _ _ (λ x lx.
         by (ltb y x)
         (λ t.
         let h = ltb-true y x t in
         let w : span away y x - span into y x ≡ out y x = omega (arith, leaves x (omega arith) (omega arith)) in
-        rw (t, tests x (omega arith) (omega arith), w, D .done x j (omega arith) lx (omega arith)))
+        rw (t, w, D .done x j (omega arith) lx (omega arith)))
         (λ t. rw t))
+        ∙ cut-next g (within cost bound) out narrow j y (omega arith)
 
--- following the next starts
-pub starts-more : (nexts : List ℕ) (n i y : ℕ) → i < n → startsBy nexts (n - i) y ≡ getD nexts (y * 16 + (n - i)) 0 ∷ startsBy nexts (n - (i + 1)) (getD nexts (y * 16 + (n - i)) 0)
-unfolding startsBy
-starts-more nexts n i y l = let q : n - i ≡ suc (n - (i + 1)) = omega arith in rw q
+-- following the cuts
+pub next-within : (g : ℕ) (out : ℕ → ℕ → ℕ) (cuts : List ℕ) (j y : ℕ) → nextBy g out cuts j y ≤ g
+unfolding nextBy
+next-within g out cuts j y = firstTo-le g _
 
-pub starts-end : (nexts : List ℕ) (n i y : ℕ) → n ≤ i → startsBy nexts (n - i) y ≡ []
+pub starts-more : (g : ℕ) (out : ℕ → ℕ → ℕ) (cuts : List ℕ) (n i y : ℕ) → i < n → startsBy g out cuts (n - i) y ≡ nextBy g out cuts (n - (i + 1)) y ∷ startsBy g out cuts (n - (i + 1)) (nextBy g out cuts (n - (i + 1)) y)
 unfolding startsBy
-starts-end nexts n i y l = let q : n - i ≡ 0 = omega arith in rw q
+starts-more g out cuts n i y l = let q : n - i ≡ suc (n - (i + 1)) = omega arith in rw q
 
-pub length-starts : (nexts : List ℕ) (j y : ℕ) → length (startsBy nexts j y) ≡ j
+pub starts-end : (g : ℕ) (out : ℕ → ℕ → ℕ) (cuts : List ℕ) (n i y : ℕ) → n ≤ i → startsBy g out cuts (n - i) y ≡ []
 unfolding startsBy
-length-starts nexts zero y = refl
-length-starts nexts (suc j) y = ap suc (length-starts nexts j (getD nexts (y * 16 + suc j) 0))
+starts-end g out cuts n i y l = let q : n - i ≡ 0 = omega arith in rw q
+
+pub length-starts : (g : ℕ) (out : ℕ → ℕ → ℕ) (cuts : List ℕ) (j y : ℕ) → length (startsBy g out cuts j y) ≡ j
+unfolding startsBy
+length-starts g out cuts zero y = refl
+length-starts g out cuts (suc j) y = ap suc (length-starts g out cuts j (nextBy g out cuts j y))
 
 -- the search for an interval
-pub within-is : {starts : List ℕ} {n p r : ℕ} → n ≤ 16 → length starts ≡ 16 → r ≡ firstTo n (λ i. ltb p (getD starts i 0)) → Within starts n p r
-within-is {starts} {n} {p} {r} l e q =
+pub labelled : {starts : List ℕ} {n p r : ℕ} → n ≤ 16 → length starts ≡ 16 → r ≡ firstTo n (λ i. ltb p (getD starts i 0)) → Within starts n p r
+labelled {starts} {n} {p} {r} l e q =
     let d = length-take-le n starts (omega arith) in
     record {
       is = q ∙ sym (interval-first (take n starts) p ∙ rw d (firstTo-ext n _ _ (λ i h. rw (getD-take n starts i 0 h))));

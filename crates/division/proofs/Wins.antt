@@ -11,9 +11,9 @@ use lib.Dec.{ltb}
 use borrow.Author.Tests.{ltb-true, ltb-false, lt-ltb}
 use Rattle.folds.proofs.Cases.{by, either, both, both-i}
 use Rattle.division.specs.Division.{Rising, fits, Feasible, NotAfter, divisions, Pick, none, some, better, given, least}
-use Rattle.division.specs.Table.{bestBelow}
+use Rattle.division.specs.Table.{bestBelow, ahead, best}
 use Rattle.division.proofs.Picks.{best-at, some-none}
-use Rattle.division.proofs.Best.{outs, ahead, best, least-best}
+use Rattle.division.proofs.Best.{outs, least-best}
 
 -- the pick cuts less than c, or cuts c and does not come after e
 abbrev pub Beats : ℕ → List ℕ → Pick (List ℕ) → Type 0
@@ -64,7 +64,7 @@ least-zero g pass cut = refl
 
 module _ (g : ℕ) (ok : ℕ → ℕ → Bool) (out : ℕ → ℕ → ℕ) where
   -- d is a feasible division of y to g - 1 with j starts after y
-  abbrev From : ℕ → ℕ → List ℕ → Type 0
+  abbrev pub From : ℕ → ℕ → List ℕ → Type 0
   From j y d = Rising g y d × (length d ≡ j) × (fits g ok y d ≡ true)
 
   best-beats : (j y : ℕ) (m : List ℕ) → Rising g y m → length m ≡ j → fits g ok y m ≡ true → Beats (outs out y m) m (best g ok out j y)
@@ -82,7 +82,7 @@ module _ (g : ℕ) (ok : ℕ → ℕ → Bool) (out : ℕ → ℕ → ℕ) where
       below x [] r = r
       below x (z ∷ m) r = omega (arith, below z m (r .1), r .0)
 
-  best-holds : (j y c : ℕ) (l : List ℕ) → best g ok out j y ≡ some c l → From j y l × (outs out y l ≡ c)
+  pub best-holds : (j y c : ℕ) (l : List ℕ) → best g ok out j y ≡ some c l → From j y l × (outs out y l ≡ c)
   unfolding best outs fits
   best-holds zero y c l e =
       by (ltb y g && ok y g)

@@ -1,60 +1,57 @@
--- The table by which the code finds the least division: for each position y and number j of starts after it, at y * 16 + j, the least cut and the next start.
-use Prim.Native.Nat.{ℕ, zero, suc, _+_, _-_, _*_, _≤_, _<_}
+-- The table by which the code finds the least division: at y * 17 + j the least cut from position y on with j starts after it.
+use Prim.Native.Nat.{ℕ, zero, suc, _+_, _-_, _*_, _≤_, _<_, min}
 use mathlib.Core.Path.{_≡_}
 use mathlib.Core.Bool.{Bool, _&&_}
 use mathlib.Core.List.{List, [], _∷_}
-use lib.Dec.{ltb, leb}
+use lib.Dec.{ltb, leb, eqb}
 use lib.ListN.{length, getD, take}
-use Rattle.folds.specs.Fold.{pick, when, sumTo}
-use Rattle.division.specs.Division.{intervalOf, Pick, none, some, better, given}
+use Rattle.folds.specs.Fold.{pick, when, sumTo, firstTo}
+use Rattle.division.specs.Division.{Feasible, intervalOf, Pick, none, some, better, given}
 
 -- the best of f 0, .., f (n - 1), the first among equals
 unfoldable pub bestBelow : {A : Type 0} → ℕ → (ℕ → Pick A) → Pick A
 bestBelow zero f = none
 bestBelow (suc n) f = better (bestBelow n f) (f n)
 
--- through x, at w more
-abbrev pub through : ℕ → ℕ → Pick ℕ → Pick ℕ
-through x w none = none
-through x w (some c n) = some (w + c) x
+-- x in front, at w more
+abbrev pub ahead : ℕ → ℕ → Pick (List ℕ) → Pick (List ℕ)
+ahead x w none = none
+ahead x w (some c d) = some (w + c) (x ∷ d)
 
--- the cell of j starts after y, where `ok` tests an interval and `out` is what leaves it
-unfoldable pub cell : ℕ → (ℕ → ℕ → Bool) → (ℕ → ℕ → ℕ) → ℕ → ℕ → Pick ℕ
-cell g ok out zero y = given (ltb y g && ok y g) (some 0 0)
-cell g ok out (suc j) y = bestBelow g (λ x. given (ltb y x && ok y x) (through x (out y x) (cell g ok out j x)))
+-- the best of j starts after y, where `ok` tests an interval and `out` is what leaves it
+unfoldable pub best : ℕ → (ℕ → ℕ → Bool) → (ℕ → ℕ → ℕ) → ℕ → ℕ → Pick (List ℕ)
+best g ok out zero y = given (ltb y g && ok y g) (some 0 [])
+best g ok out (suc j) y = bestBelow g (λ x. given (ltb y x && ok y x) (ahead x (out y x) (best g ok out j x)))
 
--- a cell as two numbers: this cut, above all others, is none
+-- a cut as a number: none is this one, above the others
 abbrev pub noCut : ℕ
-noCut = 2147483648
+noCut = 1073741824
 
-unfoldable pub cellOf : ℕ → ℕ → Pick ℕ
-cellOf c n = pick (ltb c noCut) (some c n) none
+abbrev pub cutIn : Pick (List ℕ) → ℕ
+cutIn none = noCut
+cutIn (some c d) = c
 
-unfoldable pub cellAt : List ℕ → List ℕ → ℕ → Pick ℕ
-cellAt cuts nexts i = cellOf (getD cuts i 0) (getD nexts i 0)
+-- the least of f 0, .., f (n - 1), or none
+unfoldable pub lowest : ℕ → (ℕ → ℕ) → ℕ
+lowest zero f = noCut
+lowest (suc n) f = min (lowest n f) (f n)
 
-pub record Table (cuts nexts : List ℕ) : Type 0 where
-  pub tall : length cuts ≡ 8208
-  pub same : length nexts ≡ 8208
-  pub top : (i : ℕ) → getD cuts i 0 ≤ noCut
-  pub near : (i : ℕ) → getD nexts i 0 < 512
-  pub low : (z j : ℕ) → j < 16 → getD cuts (z * 16 + j) 0 < noCut → getD cuts (z * 16 + j) 0 ≤ j * 67107840
+pub record Low (cuts : List ℕ) : Type 0 where
+  pub low : (i : ℕ) → getD cuts i 0 ≤ noCut
 
--- the cell of j + 1 starts after y has taken the offer to go on at x, at w more
-pub record Offered (y x w j : ℕ) (cuts nexts cuts′ nexts′ : List ℕ) : Type 0 where
-  pub table : Table cuts′ nexts′
-  pub here : cellAt cuts′ nexts′ (y * 16 + (j + 1)) ≡ better (cellAt cuts nexts (y * 16 + (j + 1))) (through x w (cellAt cuts nexts (x * 16 + j)))
-  pub other : (i : ℕ) → (i ≡ y * 16 + (j + 1) → ⊥) → cellAt cuts′ nexts′ i ≡ cellAt cuts nexts i
-
--- the cells of 1 to n starts after y have
-pub record Relaxed (y x w n : ℕ) (cuts nexts cuts′ nexts′ : List ℕ) : Type 0 where
-  pub table : Table cuts′ nexts′
-  pub here : (j : ℕ) → j < n → cellAt cuts′ nexts′ (y * 16 + (j + 1)) ≡ better (cellAt cuts nexts (y * 16 + (j + 1))) (through x w (cellAt cuts nexts (x * 16 + j)))
-  pub other : (i : ℕ) → ((j : ℕ) → j < n → i ≡ y * 16 + (j + 1) → ⊥) → cellAt cuts′ nexts′ i ≡ cellAt cuts nexts i
+-- the first n of 16 lanes have taken the offer to go on at the position whose cuts stand from `at` on, at w more
+pub record Relaxed (at w : ℕ) (cuts : List ℕ) (n : ℕ) (lanes lanes′ : List ℕ) : Type 0 where
+  pub tall : length lanes′ ≡ 16
+  pub here : (j : ℕ) → j < n → getD lanes′ j 0 ≡ min (getD lanes j 0) (w + getD cuts (at + j) 0)
+  pub other : (j : ℕ) → n ≤ j → getD lanes′ j 0 ≡ getD lanes j 0
 
 -- the sum of the entries from y to x - 1
 unfoldable pub span : List ℕ → ℕ → ℕ → ℕ
 span l y x = sumTo x (λ i. when (leb y i) (getD l i 0))
+
+-- the test of an interval: what lies there costs at most the bound
+unfoldable pub within : List ℕ → ℕ → ℕ → ℕ → Bool
+within cost bound y x = leb (span cost y x) bound
 
 -- what lies at each position costs, what leaves it, and what comes into it from y on: the sums fit, and no more comes in than leaves
 pub record Weights (g y : ℕ) (cost away into : List ℕ) : Type 0 where
@@ -66,42 +63,60 @@ pub record Weights (g y : ℕ) (cost away into : List ℕ) : Type 0 where
   pub covers : (x : ℕ) → y ≤ x → x ≤ g → span into y x ≤ span away y x
 
 -- to go on at x, where the interval from y to x - 1 is within the bound
-unfoldable pub onward : ℕ → ℕ → List ℕ → List ℕ → List ℕ → (ℕ → Pick ℕ) → ℕ → Pick ℕ
-onward bound y cost away into f x = given (ltb y x && leb (span cost y x) bound) (through x (span away y x - span into y x) (f x))
+unfoldable pub onward : ℕ → ℕ → List ℕ → List ℕ → List ℕ → (ℕ → ℕ) → ℕ → ℕ
+onward bound y cost away into f x = pick (ltb y x && within cost bound y x) (span away y x - span into y x + f x) noCut
 
--- nothing is known yet of up to n starts after y
-pub record Blank (n y : ℕ) (cuts nexts : List ℕ) : Type 0 where
-  pub table : Table cuts nexts
-  pub blank : (j : ℕ) → j ≤ n → cellAt cuts nexts (y * 16 + j) ≡ none
+-- lane j has the least cut of j + 1 starts after y, of which the first is below x
+pub record Lanes (bound y x : ℕ) (cost away into cuts lanes : List ℕ) : Type 0 where
+  pub tall : length lanes ≡ 16
+  pub low : Low lanes
+  pub here : (j : ℕ) → j < 16 → getD lanes j 0 ≡ lowest x (onward bound y cost away into (λ z. getD cuts (z * 17 + j) 0))
 
--- the cells of 1 to n starts after y, as far as the next start is below x; those of other positions are as they were
-pub record Swept (bound n y x : ℕ) (cost away into cuts nexts cuts′ nexts′ : List ℕ) : Type 0 where
-  pub table : Table cuts′ nexts′
-  pub first : cellAt cuts′ nexts′ (y * 16) ≡ none
-  pub here : (j : ℕ) → j < n → cellAt cuts′ nexts′ (y * 16 + (j + 1)) ≡ bestBelow x (onward bound y cost away into (λ z. cellAt cuts nexts (z * 16 + j)))
-  pub other : (z j : ℕ) → j < 16 → (z ≡ y → ⊥) → cellAt cuts′ nexts′ (z * 16 + j) ≡ cellAt cuts nexts (z * 16 + j)
+-- n lanes are stored from at + 1 on
+pub record Stored (at n : ℕ) (lanes cuts cuts′ : List ℕ) : Type 0 where
+  pub tall : length cuts′ ≡ length cuts
+  pub low : Low cuts′
+  pub here : (j : ℕ) → j < n → getD cuts′ (at + (j + 1)) 0 ≡ getD lanes j 0
+  pub other : (i : ℕ) → ((j : ℕ) → j < n → i ≡ at + (j + 1) → ⊥) → getD cuts′ i 0 ≡ getD cuts i 0
 
--- the cells of up to n starts after y, of g positions
-pub record Column (bound n y g : ℕ) (cost away into cuts nexts cuts′ nexts′ : List ℕ) : Type 0 where
-  pub table : Table cuts′ nexts′
-  pub first : cellAt cuts′ nexts′ (y * 16) ≡ given (leb (span cost y g) bound) (some 0 0)
-  pub here : (j : ℕ) → j < n → cellAt cuts′ nexts′ (y * 16 + (j + 1)) ≡ bestBelow g (onward bound y cost away into (λ z. cellAt cuts nexts (z * 16 + j)))
-  pub other : (z j : ℕ) → j < 16 → (z ≡ y → ⊥) → cellAt cuts′ nexts′ (z * 16 + j) ≡ cellAt cuts nexts (z * 16 + j)
+pub record Table (cuts : List ℕ) : Type 0 where
+  pub tall : length cuts ≡ 8721
+  pub low : Low cuts
 
--- the cells of up to n starts are filled from position y on
-pub record Done (g : ℕ) (ok : ℕ → ℕ → Bool) (out : ℕ → ℕ → ℕ) (n y : ℕ) (cuts nexts : List ℕ) : Type 0 where
-  pub table : Table cuts nexts
-  pub done : (x j : ℕ) → y ≤ x → x < g → j ≤ n → cellAt cuts nexts (x * 16 + j) ≡ cell g ok out j x
-  pub blank : (x j : ℕ) → x < y → j < 16 → cellAt cuts nexts (x * 16 + j) ≡ none
+-- the cuts of position y, of g positions whose cost from y on is `rest`
+pub record Column (bound rest y g : ℕ) (cost away into cuts cuts′ : List ℕ) : Type 0 where
+  pub table : Table cuts′
+  pub last : getD cuts′ (y * 17) 0 ≡ pick (leb rest bound) 0 noCut
+  pub here : (j : ℕ) → j < 16 → getD cuts′ (y * 17 + (j + 1)) 0 ≡ lowest g (onward bound y cost away into (λ z. getD cuts (z * 17 + j) 0))
+  pub other : (z j : ℕ) → j < 17 → (z ≡ y → ⊥) → getD cuts′ (z * 17 + j) 0 ≡ getD cuts (z * 17 + j) 0
+
+-- the least cuts are known from position y on
+pub record Done (g : ℕ) (ok : ℕ → ℕ → Bool) (out : ℕ → ℕ → ℕ) (y : ℕ) (cuts : List ℕ) : Type 0 where
+  pub table : Table cuts
+  pub done : (x j : ℕ) → y ≤ x → x < g → j < 17 → getD cuts (x * 17 + j) 0 ≡ cutIn (best g ok out j x)
+
+-- the least start above y whose cut, with what leaves the interval up to it, is that of j + 1 starts after y; or g
+abbrev pub leads : (ℕ → ℕ → ℕ) → List ℕ → ℕ → ℕ → ℕ → Bool
+leads out cuts j y x = ltb y x && eqb (out y x + getD cuts (x * 17 + j) 0) (getD cuts (y * 17 + (j + 1)) 0)
+
+unfoldable pub nextBy : ℕ → (ℕ → ℕ → ℕ) → List ℕ → ℕ → ℕ → ℕ
+nextBy g out cuts j y = firstTo g (leads out cuts j y)
 
 -- j starts after y, each the next of the one before
-unfoldable pub startsBy : List ℕ → ℕ → ℕ → List ℕ
-startsBy nexts zero y = []
-startsBy nexts (suc j) y = let x = getD nexts (y * 16 + suc j) 0 in x ∷ startsBy nexts j x
+unfoldable pub startsBy : ℕ → (ℕ → ℕ → ℕ) → List ℕ → ℕ → ℕ → List ℕ
+startsBy g out cuts zero y = []
+startsBy g out cuts (suc j) y = let x = nextBy g out cuts j y in x ∷ startsBy g out cuts j x
 
-pub record Nexts (nexts : List ℕ) : Type 0 where
-  pub tall : length nexts ≡ 8208
-  pub near : (i : ℕ) → getD nexts i 0 < 512
+-- every division into intervals within the bound has r of them or more
+pub record Fewest (cost : List ℕ) (bound g r : ℕ) : Type 0 where
+  pub least : (k : ℕ) (d : List ℕ) → Feasible g (within cost bound) k d → r ≤ k
+
+-- r intervals, each filled up to the bound, hold the positions below x: the last of them starts in no earlier interval of any division
+pub record Packed (cost : List ℕ) (bound g x load r : ℕ) : Type 0 where
+  pub start : ℕ
+  pub before : start ≤ x
+  pub sum : load ≡ span cost start x
+  pub few : (k : ℕ) (d : List ℕ) → Feasible g (within cost bound) k d → r ≤ suc (intervalOf d start)
 
 -- r is the interval of position p, by the first n of the starts
 pub record Within (starts : List ℕ) (n p r : ℕ) : Type 0 where

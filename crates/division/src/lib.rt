@@ -1,99 +1,125 @@
-// The table of the suffix recurrence: least cuts and next starts, at y * 16 + j for position y and j starts after it.
+// The table of the suffix recurrence: least cuts, at y * 17 + j for position y and j starts after it.
 ghost use mathlib.Core.Path.{_≡_};
-ghost use Prim.Native.Nat.{ℕ, _+_, _*_, _<_, _≤_};
-ghost use lib.ListN.{length, replicate};
-ghost use Rattle.folds.specs.Fold.{over, zeros};
-ghost use Rattle.division.specs.Division.{none};
-ghost use Rattle.division.specs.Table.{noCut, Table, cellAt, Offered, Relaxed, Weights, Blank, Column, Nexts, startsBy, Within};
+ghost use Prim.Native.Nat.{_+_, _*_, _<_, _≤_, min};
+ghost use lib.ListN.{length};
+ghost use lib.Dec.{ltb};
+ghost use Rattle.division.specs.Table.{noCut, span, Low, Relaxed, Weights, Lanes, Stored, Table, Column, Fewest, Within};
 
-// A table with nothing in it.
-pub fn clear(cut: &mut [u32; 8208], next: &mut [u16; 8208])
-    ensures { λ _. ⌜ (now (cut .exit) ≡ replicate 8208 noCut) × (now (next .exit) ≡ zeros 8208) ⌝ }
+// a < b, compared as signed numbers: the lanes' loop is faster so.
+fn less(a: u32, b: u32) -> bool
+    requires { ⌜ (a < 2147483648) × (b < 2147483648) ⌝ }
+    ensures { λ r. ⌜ r ≡ ltb a b ⌝ }
 {
-    *cut = [2147483648; 8208];
-    *next = [0; 8208];
+    (a as i32) < (b as i32)
 }
 
-// The offer to the cell of j + 1 starts after y to go on at x, at w more.
-fn offer(cut: &mut [u32; 8208], next: &mut [u16; 8208], y: usize, x: usize, w: u32, j: usize)
-    requires { ⌜ Table (now cut) (now next) ⌝ }
-    requires { ⌜ (y < x) × (x < 512) × (j < 15) × (w ≤ 67107840) ⌝ }
-    ensures { λ _. ⌜ Offered y x w j (now (cut .entry)) (now (next .entry)) (now (cut .exit)) (now (next .exit)) ⌝ }
+// The lower of the cut b and the offer to go on at the cut c, at w more.
+fn keep(b: u32, w: u32, c: u32) -> u32
+    requires { ⌜ (b ≤ noCut) × (w ≤ 67107840) × (c ≤ noCut) ⌝ }
+    ensures { λ r. ⌜ r ≡ min b (w + c) ⌝ }
 {
-    let from = x * 16 + j;
-    let at = y * 16 + (j + 1);
-    let c = w + cut[from];
-    if cut[at] <= c {
-        return;
-    }
-    cut[at] = c;
-    next[at] = x as u16;
+    let x = w + c;
+    if less(x, b) { x } else { b }
 }
 
-// The offers to all numbers of starts after y, up to n.
-fn relax(cut: &mut [u32; 8208], next: &mut [u16; 8208], y: usize, x: usize, w: u32, n: usize)
-    requires { ⌜ Table (now cut) (now next) ⌝ }
-    requires { ⌜ (y < x) × (x < 512) × (n < 16) × (w ≤ 67107840) ⌝ }
-    ensures { λ _. ⌜ Relaxed y x w n (now (cut .entry)) (now (next .entry)) (now (cut .exit)) (now (next .exit)) ⌝ }
+// The offers to all lanes to go on at the position whose cuts stand from `at` on, at w more.
+fn relax(cut: &[u32; 8721], at: usize, w: u32, best: &mut [u32; 16])
+    requires { ⌜ Low (now cut) ⌝ }
+    requires { ⌜ Low (now best) ⌝ }
+    requires { ⌜ (at ≤ 8704) × (w ≤ 67107840) × (length (now best) ≡ 16) ⌝ }
+    ensures { λ _. ⌜ Relaxed at w (now (cut .entry)) 16 (now (best .entry)) (now (best .exit)) ⌝ }
 {
     let mut j: usize = 0;
-    while j < n {
-        offer(cut, next, y, x, w, j);
+    while j < 16 {
+        best[j] = keep(best[j], w, cut[at + j]);
         j += 1;
     }
 }
 
-// Fills the cells of position y: one sweep over the ends of its interval, as far as it is within the bound.
+// Stores the lanes: those of 1 to 16 starts.
+fn store(best: &[u32; 16], at: usize, cut: &mut [u32; 8721])
+    requires { ⌜ Low (now best) ⌝ }
+    requires { ⌜ Table (now cut) ⌝ }
+    requires { ⌜ at ≤ 8704 ⌝ }
+    ensures { λ _. ⌜ Stored at 16 (now (best .entry)) (now (cut .entry)) (now (cut .exit)) ⌝ }
+{
+    let mut j: usize = 0;
+    while j < 16 {
+        cut[at + (j + 1)] = best[j];
+        j += 1;
+    }
+}
+
+// The lanes of position y: over the ends of its interval, as far as it is within the bound.
+fn reach(
+    cost: &[u32; 512],
+    away: &[u32; 512],
+    into: &[u32; 512],
+    bound: u32,
+    g: usize,
+    y: usize,
+    cut: &[u32; 8721],
+) -> [u32; 16]
+    requires { ⌜ Weights g y (now cost) (now away) (now into) ⌝ }
+    requires { ⌜ Low (now cut) ⌝ }
+    requires { ⌜ (y < g) × (g ≤ 512) ⌝ }
+    ensures { λ r. ⌜ Lanes bound y g (now (cost .entry)) (now (away .entry)) (now (into .entry)) (now (cut .entry)) r ⌝ }
+{
+    let mut best = [1073741824u32; 16];
+    let mut load = cost[y];
+    let mut out = away[y] - into[y];
+    let mut x = y + 1;
+    while x < g {
+        if load > bound {
+            return best;
+        }
+        relax(cut, x * 17, out, &mut best);
+        load = load + cost[x];
+        out = out + away[x] - into[x];
+        x += 1;
+    }
+    best
+}
+
+// Fills the cuts of position y, from which on all costs `rest`.
 pub fn sweep(
     cost: &[u32; 512],
     away: &[u32; 512],
     into: &[u32; 512],
     bound: u32,
     g: usize,
-    n: usize,
     y: usize,
-    cut: &mut [u32; 8208],
-    next: &mut [u16; 8208],
+    rest: u32,
+    cut: &mut [u32; 8721],
 )
     requires { ⌜ Weights g y (now cost) (now away) (now into) ⌝ }
-    requires { ⌜ Blank n y (now cut) (now next) ⌝ }
-    requires { ⌜ (y < g) × (g ≤ 512) × (n < 16) ⌝ }
-    ensures { λ _. ⌜ Column bound n y g (now (cost .entry)) (now (away .entry)) (now (into .entry)) (now (cut .entry)) (now (next .entry)) (now (cut .exit)) (now (next .exit)) ⌝ }
+    requires { ⌜ Table (now cut) ⌝ }
+    requires { ⌜ (y < g) × (g ≤ 512) ⌝ }
+    ensures { λ _. ⌜ Column bound rest y g (now (cost .entry)) (now (away .entry)) (now (into .entry)) (now (cut .entry)) (now (cut .exit)) ⌝ }
 {
-    let mut load = cost[y];
-    let mut out = away[y] - into[y];
-    let mut x = y + 1;
-    while x < g {
-        if load > bound {
-            return;
-        }
-        relax(cut, next, y, x, out, n);
-        load = load + cost[x];
-        out = out + away[x] - into[x];
-        x += 1;
-    }
-    if bound < load {
-        return;
-    }
-    let at = y * 16;
-    cut[at] = 0;
-    next[at] = 0;
+    let best = reach(cost, away, into, bound, g, y, cut);
+    let at = y * 17;
+    store(&best, at, cut);
+    cut[at] = if bound < rest { 1073741824 } else { 0 };
 }
 
-// Writes the n starts that follow position 0.
-pub fn follow(next: &[u16; 8208], n: usize, first: &mut [u16; 16])
-    requires { ⌜ Nexts (now next) ⌝ }
-    requires { ⌜ (n < 16) × (length (now first) ≡ 16) ⌝ }
-    ensures { λ _. ⌜ now (first .exit) ≡ over (startsBy (now (next .entry)) n 0) (now (first .entry)) ⌝ }
+// How many intervals there are where each is filled up to the bound.
+pub fn fewest(cost: &[u32; 512], bound: u32, g: usize) -> usize
+    requires { ⌜ (g ≤ 512) × (span (now cost) 0 g ≤ 33553920) ⌝ }
+    ensures { λ r. ⌜ Fewest (now (cost .entry)) bound g r ⌝ }
 {
-    let mut y: usize = 0;
-    let mut i: usize = 0;
-    while i < n {
-        let x = next[y * 16 + (n - i)];
-        first[i] = x;
-        y = folds::wide(x);
-        i += 1;
+    let mut count: usize = 1;
+    let mut load: u32 = 0;
+    let mut x: usize = 0;
+    while x < g {
+        load = load + cost[x];
+        if bound < load {
+            count += 1;
+            load = cost[x];
+        }
+        x += 1;
     }
+    count
 }
 
 // The interval of position p, by the first n of the starts.

@@ -3,3 +3,4 @@ pub mod Edges
 pub mod Rungs
 pub mod Rows
 pub mod Links
+pub mod Coarse

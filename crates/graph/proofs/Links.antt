@@ -6,21 +6,23 @@ use mathlib.Core.Logic.{⊎-elim}
 use mathlib.Core.List.{List}
 use native.Mathlib.Nat.{eq-or-lt-of-le}
 use native.Mathlib.Omega.{arith}
+use lib.Dec.{eqb}
+use borrow.Author.Tests.{eq-eqb, ne-eqb}
 use lib.ListN.{length, getD, set, replicate, getD-replicate, length-set}
 use lib.Seq.{getD-set-same, getD-set-other}
-use Rattle.folds.specs.Fold.{sumTo, firstTo, turns, Read}
-use Rattle.folds.proofs.Cases.{eq-or-ne}
+use Rattle.folds.specs.Fold.{pick, sumTo, firstTo, turns, Read}
+use Rattle.folds.proofs.Cases.{either, eq-or-ne}
 use Rattle.folds.proofs.Sums.{sumTo-zero, sumTo-turn, sumTo-skip}
 use Rattle.folds.proofs.Searches.{firstTo-zero, firstTo-more, firstTo-skip}
 use Rattle.folds.proofs.Loops.{turns-zero, turns-turn, turns-skip}
-use Rattle.graph.specs.Graph.{via}
-use Rattle.graph.specs.Links.{Hop, Linked, Ends, Joins, Cluster}
+use Rattle.graph.specs.Graph.{via, Arcs}
+use Rattle.graph.specs.Links.{Hop, Linked, Ends, Joins, Cluster, leave}
 
 -- the links of the edges from j on
 pub record Made (key : ℕ → ℕ) (m j : ℕ) (head next : List ℕ) : Type 0 where
-  pub tall : length head ≡ 512
+  pub tall : length head ≡ 513
   pub long : length next ≡ 1024
-  pub heads : (a : ℕ) → a < 512 → Hop key m a j (getD head a 0)
+  pub heads : (a : ℕ) → a < 513 → Hop key m a j (getD head a 0)
   pub nexts : (i : ℕ) → j ≤ i → i < m → Hop key m (key i) (i + 1) (getD next i 0)
 
 pub hop-none : (key : ℕ → ℕ) (m a : ℕ) → Hop key m a m m
@@ -40,16 +42,16 @@ hop-over key m a j x n h =
     }
 
 module _ (key : ℕ → ℕ) (m : ℕ) where
-  pub made-none : (next : List ℕ) → length next ≡ 1024 → Made key m m (replicate 512 m) next
+  pub made-none : (next : List ℕ) → length next ≡ 1024 → Made key m m (replicate 513 m) next
   made-none next e =
       record {
         tall = refl;
         long = e;
-        heads = λ a l. rw (getD-replicate 512 a m 0 l) (hop-none key m a);
+        heads = λ a l. rw (getD-replicate 513 a m 0 l) (hop-none key m a);
         nexts = λ i l h. absurd (omega arith);
       }
 
-  pub made-turn : (j k : ℕ) (head next : List ℕ) → key j ≡ k → k < 512 → j < m → m ≤ 1024
+  pub made-turn : (j k : ℕ) (head next : List ℕ) → key j ≡ k → k < 513 → j < m → m ≤ 1024
       → Made key m (j + 1) head next → Made key m j (set head k j) (set next j (getD head k 0))
   made-turn j k head next e lk lj lm w =
       record {
@@ -62,7 +64,7 @@ module _ (key : ℕ → ℕ) (m : ℕ) where
       head-same : (a : ℕ) → a ≡ k → Hop key m a j (getD (set head k j) a 0)
       head-same a q = rw (q, getD-set-same head k j 0 (omega (arith, w .tall))) (hop-here key m k j (omega arith) e)
 
-      head-other : (a : ℕ) → a < 512 → (a ≡ k → ⊥) → Hop key m a j (getD (set head k j) a 0)
+      head-other : (a : ℕ) → a < 513 → (a ≡ k → ⊥) → Hop key m a j (getD (set head k j) a 0)
       head-other a l n = rw (getD-set-other head k a j 0 n) (hop-over key m a j _ (λ q. n (sym q ∙ e)) (w .heads a l))
 
       next-same : (i : ℕ) → i ≡ j → Hop key m (key i) (i + 1) (getD (set next j (getD head k 0)) i 0)
@@ -72,13 +74,13 @@ module _ (key : ℕ → ℕ) (m : ℕ) where
       next-other i l h n = rw (getD-set-other next j i (getD head k 0) 0 n) (w .nexts i (omega arith) h)
 
   -- the same at the code's j - 1
-  pub made-down : (j k : ℕ) (head next : List ℕ) → key (j - 1) ≡ k → k < 512 → 0 < j → j ≤ m → m ≤ 1024
+  pub made-down : (j k : ℕ) (head next : List ℕ) → key (j - 1) ≡ k → k < 513 → 0 < j → j ≤ m → m ≤ 1024
       → Made key m j head next → Made key m (j - 1) (set head k (j - 1)) (set next (j - 1) (getD head k 0))
   made-down j k head next e lk l lj lm w =
       let q : j ≡ (j - 1) + 1 = omega arith in made-turn (j - 1) k head next e lk (omega arith) lm (rw q at w)
 
   pub made-end : {j : ℕ} {head next : List ℕ} → j ≡ 0 → Made key m j head next → Linked key m head next
-  made-end {j} e w = record { tall = w .tall; long = w .long; heads = rw e at (w .heads); nexts = λ i l. w .nexts i (omega arith) l }
+  made-end {j} e w = record { tall = w .tall; long = w .long; heads = λ a l. rw e at (w .heads a (omega arith)); nexts = λ i l. w .nexts i (omega arith) l }
 
 -- what two reads give: the cluster of an edge's end
 pub end-in : {row ends : List ℕ} {j v b : ℕ} → Ends row ends → j < length ends → Read ends j b v → v < length row
@@ -161,3 +163,21 @@ joins-back g = record { out = g .into; into = g .out; same = sym (g .same) }
 -- an edge has both ends
 pub joined-ends : {row starts ends : List ℕ} {j : ℕ} → Joins row starts ends → j < length starts → j < length ends
 joined-ends p l = omega (arith, p .same)
+
+-- edges that leave a cluster
+module _ (A : Arcs) (j : ℕ) {u : ℕ} where
+  pub leave-at : A .from j ≡ u → (A .to j ≡ u → ⊥) → leave A j ≡ u
+  unfolding leave
+  leave-at e n = rw (ne-eqb (A .from j) (A .to j) (λ q. n (sym q ∙ e))) e
+
+  pub stays : (leave A j ≡ u → ⊥) → A .from j ≡ u → A .to j ≡ u
+  stays n e = either (eq-or-ne (A .to j) u) (λ q. q) (λ q. absurd (n (leave-at e q)))
+
+  module _ (e : leave A j ≡ u) (l : u < 512) where
+    crosses : A .from j ≡ A .to j → ⊥
+    unfolding leave
+    crosses q = let z : 512 ≡ u = rw (eq-eqb (A .from j) (A .to j) q) at e in omega arith
+
+    pub leave-from : A .from j ≡ u
+    unfolding leave
+    leave-from = rw (ne-eqb (A .from j) (A .to j) crosses) at e

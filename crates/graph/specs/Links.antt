@@ -2,8 +2,9 @@
 use Prim.Native.Nat.{ℕ, _+_, _≤_, _<_}
 use mathlib.Core.Path.{_≡_}
 use mathlib.Core.List.{List}
+use lib.Dec.{eqb}
 use lib.ListN.{length, getD}
-use Rattle.folds.specs.Fold.{sumTo}
+use Rattle.folds.specs.Fold.{pick, sumTo}
 use Rattle.graph.specs.Graph.{via, Arcs, crossing, costIn}
 
 -- to is the least edge from `from` on with the key a, or m
@@ -15,10 +16,18 @@ pub record Hop (key : ℕ → ℕ) (m a from to : ℕ) : Type 0 where
 
 -- the first edge of each key, and the next of the same key of each edge
 pub record Linked (key : ℕ → ℕ) (m : ℕ) (head next : List ℕ) : Type 0 where
-  pub tall : length head ≡ 512
+  pub tall : length head ≡ 513
   pub long : length next ≡ 1024
   pub heads : (a : ℕ) → a < 512 → Hop key m a 0 (getD head a 0)
   pub nexts : (j : ℕ) → j < m → Hop key m (key j) (j + 1) (getD next j 0)
+
+-- the cluster that edge j leaves, or 512 where it stays in one
+unfoldable pub leave : Arcs → ℕ → ℕ
+leave A j = pick (eqb (A .from j) (A .to j)) 512 (A .from j)
+
+pub record Leaves (A : Arcs) (j r : ℕ) : Type 0 where
+  pub is : r ≡ leave A j
+  pub low : r < 513
 
 -- at most 1024 edges whose ends are vertices of row, and the clusters of row are below 512
 pub record Ends (row ends : List ℕ) : Type 0 where

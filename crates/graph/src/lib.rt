@@ -3,7 +3,7 @@ ghost use mathlib.Core.Path.{_≡_};
 ghost use Prim.Native.Nat.{ℕ, _<_, _≤_};
 ghost use lib.ListN.{length, getD};
 ghost use Rattle.graph.specs.Graph.{via, arcs, cut};
-ghost use Rattle.graph.specs.Links.{Linked, Ends, Joins, Cluster, Crossing, Summed};
+ghost use Rattle.graph.specs.Links.{Linked, Ends, Joins, Cluster, Crossing, Summed, leave, Leaves};
 
 // The cluster at which edge j has its end.
 pub fn cluster(row: &[u16], ends: &[u16], j: usize) -> usize
@@ -16,19 +16,47 @@ pub fn cluster(row: &[u16], ends: &[u16], j: usize) -> usize
 }
 
 // Fills the lists of the edges by the cluster of their end, from the last edge down.
-pub fn fill(row: &[u16], ends: &[u16], head: &mut [u16; 512], next: &mut [u16; 1024])
+pub fn fill(row: &[u16], ends: &[u16], head: &mut [u16; 513], next: &mut [u16; 1024])
     requires { ⌜ Ends (now row) (now ends) ⌝ }
     requires { ⌜ length (now next) ≡ 1024 ⌝ }
     ensures { λ _. ⌜ Linked (via (now (row .entry)) (now (ends .entry))) (length (now (ends .entry))) (now (head .exit)) (now (next .exit)) ⌝ }
 {
     let m = ends.len();
-    *head = [m as u16; 512];
+    *head = [m as u16; 513];
     let mut j: usize = m;
     while j > 0 {
         j -= 1;
         let a = cluster(row, ends, j);
         next[j] = head[a];
         head[a] = j as u16;
+    }
+}
+
+// The cluster that edge j leaves at its near end, or 512 where both ends lie in one.
+fn leaves(row: &[u16], near: &[u16], far: &[u16], j: usize) -> usize
+    requires { ⌜ Joins (now row) (now near) (now far) ⌝ }
+    requires { ⌜ j < length (now near) ⌝ }
+    ensures { λ r. ⌜ Leaves (arcs (now (row .entry)) (now (near .entry)) (now (far .entry))) j r ⌝ }
+{
+    let a = cluster(row, near, j);
+    let b = cluster(row, far, j);
+    if a == b { 512 } else { a }
+}
+
+// Fills the lists of the edges that leave a cluster, by the cluster of their near end, from the last edge down.
+pub fn fill_leaving(row: &[u16], near: &[u16], far: &[u16], head: &mut [u16; 513], next: &mut [u16; 1024])
+    requires { ⌜ Joins (now row) (now near) (now far) ⌝ }
+    requires { ⌜ length (now next) ≡ 1024 ⌝ }
+    ensures { λ _. ⌜ Linked (leave (arcs (now (row .entry)) (now (near .entry)) (now (far .entry)))) (length (now (near .entry))) (now (head .exit)) (now (next .exit)) ⌝ }
+{
+    let m = near.len();
+    *head = [m as u16; 513];
+    let mut j: usize = m;
+    while j > 0 {
+        j -= 1;
+        let k = leaves(row, near, far, j);
+        next[j] = head[k];
+        head[k] = j as u16;
     }
 }
 

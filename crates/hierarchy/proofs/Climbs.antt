@@ -6,7 +6,7 @@ use mathlib.Core.List.{List}
 use native.Mathlib.Nat.{suc-mul, mul-le-mul-right}
 use native.Mathlib.Omega.{arith}
 use lib.Dec.{ltb}
-use lib.ListN.{length, take, drop, length-take}
+use lib.ListN.{length, getD, take, drop, length-take}
 use borrow.Author.Tests.{lt-ltb, le-ltb}
 use borrow.Rule.Slice.PartMut.{putMid}
 use Rattle.folds.specs.Fold.{part}
@@ -16,7 +16,7 @@ use Rattle.graph.specs.Graph.{Graph, vertices, seen, RowOf}
 use Rattle.graph.specs.Rows.{clusters}
 use Rattle.graph.proofs.Edges.{row-inside}
 use Rattle.contraction.specs.Rules.{Keeps}
-use Rattle.contraction.specs.Next.{mateOf, mateIn, nextRow, lowestOf, leads, Mated, Short, Joined}
+use Rattle.contraction.specs.Next.{mateOf, mateIn, joinedRow, nextRow, lowestOf, leads, Mated, Short, Joined, Renamed}
 use Rattle.contraction.proofs.Mates.{mate-back, keeps-disjoint}
 use Rattle.contraction.proofs.Next.{length-next, next-clusters}
 use Rattle.contraction.proofs.Arrays.{mates-mated, joined-mates}
@@ -47,6 +47,17 @@ module _ {G : Graph} {row : List ℕ} {g : ℕ} (bound : ℕ) (R : Ready G row g
   tried-round {mates} {out} {out′} {r} {c} M J =
       let J′ = joined-mates (row-inside (R .proper .formed) row-own) small keeps (rw (M .mates-are) at J) in
       record { pairs-are = M .counts; few = M .few; left = J′ .count-is; row-is = J′ .row-is }
+
+  -- the new numbers are those of the next row
+  pub tried-renamed : {mates out out′ map : List ℕ} {r c : ℕ} → Matched G bound row mates r → Joined row (mateIn mates) out out′ c → Renamed row (joinedRow row (mateIn mates)) map
+      → Renamed row (nextRow row (roundOf G bound row)) map
+  tried-renamed {mates} {out} {out′} {map} M J N =
+      let m = roundOf G bound row in
+      let e : joinedRow row (mateIn mates) ≡ nextRow row m =
+        sym (take-over (joinedRow row (mateIn mates)) out (length row) (length-next row (mateIn mates)))
+        ∙ ap (take (length row)) (sym (J .row-is) ∙ tried-round M J .row-is)
+        ∙ take-over (nextRow row m) out (length row) (length-next row (mateOf m)) in
+      record { tall = N .tall; is = λ v l. N .is v l ∙ ap (λ (l : List ℕ). getD l v 0) e }
 
   pub next-few : clusters (nextRow row (roundOf G bound row)) ≤ length row
   next-few = rw (next-clusters row (mateOf (roundOf G bound row)) (mate-back (roundOf G bound row) (keeps-disjoint keeps))) (countTo-le (length row) (leads (lowestOf row (mateOf (roundOf G bound row)))))

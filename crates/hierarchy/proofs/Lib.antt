@@ -1,5 +1,10 @@
 pub mod Flat
 pub mod Tried
 pub mod Own
+pub mod Carrying
+pub mod Storing
+pub mod Handing
 pub mod Climbs
+pub mod Stepping
+pub mod Starting
 pub mod Rising

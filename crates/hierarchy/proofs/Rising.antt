@@ -80,6 +80,9 @@ module _ (G : Graph) (ladder : List ℕ) (room : 9 * vertices G ≤ length ladde
   pub first-room : {q : List ℕ} → q ≡ identity (length (take (vertices G - 0) (drop 0 ladder))) → 9 * vertices G ≤ length (putMid 0 (vertices G - 0) ladder q)
   first-room e = rw (first-put e, first-length) room
 
+  pub first-same : {q : List ℕ} → q ≡ identity (length (take (vertices G - 0) (drop 0 ladder))) → length (putMid 0 (vertices G - 0) ladder q) ≡ length ladder
+  first-same e = rw (first-put e) first-length
+
   pub first-front : {q : List ℕ} → q ≡ identity (length (take (vertices G - 0) (drop 0 ladder))) → rowAt G (putMid 0 (vertices G - 0) ladder q) 0 ≡ identity (vertices G)
   first-front e = rw (first-put e) first-row-is
 

@@ -1,14 +1,19 @@
 -- What the calls that build the hierarchy leave.
-use Prim.Native.Nat.{ℕ, _+_, _*_, _≤_}
+use Prim.Native.Nat.{ℕ, suc, _+_, _*_, _≤_, _<_}
 use mathlib.Core.Path.{_≡_}
 use mathlib.Core.List.{List}
-use lib.ListN.{length}
-use Rattle.folds.specs.Fold.{pick, when, over, put, part}
+use lib.ListN.{length, getD, set, take}
+use Rattle.folds.specs.Fold.{pick, when, sumTo, over, put, part}
 use Rattle.graph.specs.Walk.{Acyclic}
-use Rattle.graph.specs.Graph.{Graph, vertices, identity, seen, Edge, Proper}
+use Rattle.graph.specs.Graph.{Graph, vertices, edges, identity, arcs, seen, Edge, partCost, Proper}
 use Rattle.graph.specs.Rows.{clusters}
-use Rattle.contraction.specs.Next.{nextRow}
+use Rattle.graph.specs.Coarse.{Coarse, Stored}
+use Rattle.topology.specs.Order.{orderOf}
+use Rattle.levels.specs.Sweep.{Ordered}
+use Rattle.contraction.specs.Next.{nextRow, Renamed}
 use Rattle.matching.specs.Choice.{roundOf}
+use Rattle.matching.specs.Held.{Weights}
+use Rattle.row_lists.specs.Carry.{Between, Next, Merged}
 use Rattle.hierarchy.specs.Climb.{kept, keptOf, ladderAfter}
 
 -- a round on a row: how many pairs and clusters, and the next row in the front of an array
@@ -17,6 +22,14 @@ pub record Round (G : Graph) (bound : ℕ) (row out out′ : List ℕ) (pairs cl
   pub few : pairs ≤ 512
   pub left : clusters-left ≡ clusters (nextRow row (roundOf G bound row))
   pub row-is : out′ ≡ over (nextRow row (roundOf G bound row)) out
+
+-- what is carried of a row with g clusters: its lists, the clusters' costs and their topological order
+pub record Carries (G : Graph) (row : List ℕ) (g : ℕ) (weights froms tos widths order : List ℕ) : Type 0 where
+  pub onto : (c : ℕ) → c < g → (v : ℕ) × (v < vertices G) × (getD row v 0 ≡ c)
+  pub lists : Coarse G row g froms tos widths
+  pub weighed : Weights g weights
+  pub costs : (c : ℕ) → getD weights c 0 ≡ partCost (G .costs) row c
+  pub ordered : Ordered (seen G row) g order
 
 -- row r of the ladder
 abbrev pub rowAt : Graph → List ℕ → ℕ → List ℕ
@@ -29,9 +42,67 @@ pub record Climbed (G : Graph) (k bound r : ℕ) (ladder ladder′ : List ℕ) (
   pub answer-is : answer ≡ when (kept G k bound (rowAt G ladder r) (roundOf G bound (rowAt G ladder r)))
       (clusters (nextRow (rowAt G ladder r) (roundOf G bound (rowAt G ladder r))))
 
+-- where the round was kept, map has the new number of each cluster
+pub record Climbs (G : Graph) (k bound r : ℕ) (ladder ladder′ map : List ℕ) (answer : ℕ) : Type 0 where
+  pub climbed : Climbed G k bound r ladder ladder′ answer
+  pub renamed : (answer ≡ 0 → ⊥) → Renamed (rowAt G ladder r) (nextRow (rowAt G ladder r) (roundOf G bound (rowAt G ladder r))) map
+
+-- the lists and the topological orders of rows 0 to top, each end to end
+pub record Carried (G : Graph) (rows : ℕ → List ℕ) (top : ℕ) (froms tos widths sizes orders : List ℕ) : Type 0 where
+  pub lists : Stored G rows top (edges G) froms tos widths sizes
+  pub nine : length sizes ≡ 9
+  pub long : suc top * vertices G ≤ length orders
+  pub order : (r : ℕ) → r ≤ top → take (clusters (rows r)) (part orders (r * vertices G) (vertices G)) ≡ orderOf (seen G (rows r)) (clusters (rows r))
+
+-- what is carried up to row r, which has g clusters: lists, orders, and the clusters' costs
+pub record Carrying (G : Graph) (ladder : List ℕ) (r g : ℕ) (froms tos widths sizes orders weights : List ℕ) : Type 0 where
+  pub carried : Carried G (rowAt G ladder) r froms tos widths sizes orders
+  pub weighed : Weights g weights
+  pub costs : (c : ℕ) → getD weights c 0 ≡ partCost (G .costs) (rowAt G ladder r) c
+
+-- room for nine rows, their lists and their orders
+pub record Room (G : Graph) (ladder froms tos widths sizes orders : List ℕ) : Type 0 where
+  pub rows : 9 * vertices G ≤ length ladder
+  pub from-room : 9 * edges G ≤ length froms
+  pub to-room : 9 * edges G ≤ length tos
+  pub width-room : 9 * edges G ≤ length widths
+  pub nine : length sizes ≡ 9
+  pub order-room : 9 * vertices G ≤ length orders
+
+-- a round on row r, with what is then carried: as it was, or up to row r + 1
+pub record Steps (G : Graph) (k bound r : ℕ) (ladder ladder′ froms tos widths sizes orders weights : List ℕ) (answer : ℕ) : Type 0 where
+  pub climbed : Climbed G k bound r ladder ladder′ answer
+  pub none : answer ≡ 0 → Carried G (rowAt G ladder′) r froms tos widths sizes orders
+  pub some : (answer ≡ 0 → ⊥) → Carrying G ladder′ (r + 1) answer froms tos widths sizes orders weights
+
+-- row r has `size` edges, and there is room for those of row r + 1 and its order
+pub record HandsOn (n m r g : ℕ) (froms tos widths sizes orders weights : List ℕ) : Type 0 where
+  pub row : r < 8
+  pub vertices-few : n ≤ 512
+  pub edges-few : m ≤ 1024
+  pub few : getD sizes r 0 ≤ m
+  pub nine : length sizes ≡ 9
+  pub between : Between g (part froms (r * m) (getD sizes r 0)) (part tos (r * m) (getD sizes r 0)) (part widths (r * m) (getD sizes r 0))
+  pub from-room : 9 * m ≤ length froms
+  pub to-room : 9 * m ≤ length tos
+  pub width-room : 9 * m ≤ length widths
+  pub order-room : 9 * n ≤ length orders
+  pub tall : length weights ≡ 512
+  pub light : sumTo g (λ c. getD weights c 0) ≤ 33553920
+
+-- the lists of row r + 1, its costs and its order
+pub record HandedOn (map : List ℕ) (n m r g h : ℕ) (froms tos widths sizes orders weights froms′ tos′ widths′ sizes′ orders′ weights′ : List ℕ) : Type 0 where
+  pub count : ℕ
+  pub next : Next map g h (r * m) (getD sizes r 0) (r * m + m) froms tos widths froms′ tos′ widths′ count
+  pub sizes-are : sizes′ ≡ set sizes (r + 1) count
+  pub merged : Merged map weights g weights′
+  pub orders-are : orders′ ≡ put orders (r * n + n) (over (orderOf (arcs (identity h) (next .from) (next .to)) h) (part orders (r * n + n) n))
+
 -- a graph whose hierarchy can be built
 pub record Buildable (G : Graph) (k : ℕ) : Type 0 where
   pub proper : Proper G
+  pub apart : (j : ℕ) → j < edges G → getD (G .starts) j 0 ≡ getD (G .ends) j 0 → ⊥
+  pub once : (i j : ℕ) → i < j → j < edges G → getD (G .starts) i 0 ≡ getD (G .starts) j 0 → getD (G .ends) i 0 ≡ getD (G .ends) j 0 → ⊥
   pub acyclic : Acyclic (Edge (seen G (identity (vertices G))))
   pub few : k ≤ 16
 

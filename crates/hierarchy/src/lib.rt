@@ -2,9 +2,13 @@
 ghost use mathlib.Core.Path.{_≡_};
 ghost use Prim.Native.Nat.{_+_, _*_, _<_, _≤_};
 ghost use lib.ListN.{length, take};
+ghost use Rattle.contraction.specs.Next.{nextRow, Renamed};
+ghost use Rattle.contraction.proofs.Rounds.{Sound};
+ghost use Rattle.matching.specs.Choice.{roundOf};
 ghost use Rattle.graph.specs.Graph.{graphOf, identity};
 ghost use Rattle.matching.specs.Held.{Ready};
-ghost use Rattle.hierarchy.specs.Built.{Round, rowAt, Climbed, Buildable, Built};
+ghost use Rattle.row_lists.specs.Carry.{Maps};
+ghost use Rattle.hierarchy.specs.Built.{Round, Carries, rowAt, Climbs, Carried, Carrying, Room, Steps, HandsOn, HandedOn, Buildable, Built};
 
 // How many pairs a round made, and how many clusters it leaves.
 pub struct Outcome {
@@ -12,15 +16,17 @@ pub struct Outcome {
     pub clusters: usize,
 }
 
-// A round on a row of g clusters, with the next row in the front of out.
-fn try_round(costs: &[u16], row: &[u16], starts: &[u16], ends: &[u16], widths: &[u16], g: usize, bound: u32, out: &mut [u16; 512]) -> Outcome
+// A round on a row of g clusters, by its lists: the next row in the front of out, and the new number of each cluster in map.
+fn try_round(costs: &[u16], row: &[u16], starts: &[u16], ends: &[u16], widths: &[u16], id: &[u16], weights: &[u32; 512], from: &[u16], to: &[u16], width: &[u32], order: &[u16], g: usize, bound: u32, map: &mut [u16; 512], out: &mut [u16; 512]) -> Outcome
     requires { ⌜ Ready (graphOf (now costs) (now starts) (now ends) (now widths)) (now row) g ⌝ }
-    requires { ⌜ length (now out) ≡ 512 ⌝ }
+    requires { ⌜ Carries (graphOf (now costs) (now starts) (now ends) (now widths)) (now row) g (now weights) (now from) (now to) (now width) (now order) ⌝ }
+    requires { ⌜ (now id ≡ identity g) × (length (now out) ≡ 512) ⌝ }
     ensures { λ r. ⌜ Round (graphOf (now (costs .entry)) (now (starts .entry)) (now (ends .entry)) (now (widths .entry))) bound (now (row .entry)) (now (out .entry)) (now (out .exit)) (r .pairs) (r .clusters) ⌝ }
+    ensures { λ _. ⌜ Renamed (now (row .entry)) (nextRow (now (row .entry)) (roundOf (graphOf (now (costs .entry)) (now (starts .entry)) (now (ends .entry)) (now (widths .entry))) bound (now (row .entry)))) (now (map .exit)) ⌝ }
 {
     let mut mates = [0; 512];
-    let pairs = matching::round(costs, row, starts, ends, widths, g, bound, &mut mates);
-    let clusters = contraction::next_row(row, &mates, out);
+    let pairs = matching::round(weights, id, from, to, width, order, g, bound, &mut mates);
+    let clusters = contraction::next_row(row, &mates, map, out);
     Outcome { pairs: pairs, clusters: clusters }
 }
 
@@ -49,11 +55,13 @@ fn first_row(row: &mut [u16])
 }
 
 // A round on row r, whose row follows it where the round is kept. Answers its clusters, or 0 where no round was kept.
-fn climb(costs: &[u16], starts: &[u16], ends: &[u16], widths: &[u16], k: usize, bound: u32, ladder: &mut [u16], r: usize, g: usize) -> usize
+fn climb(costs: &[u16], starts: &[u16], ends: &[u16], widths: &[u16], k: usize, bound: u32, id: &[u16], weights: &[u32; 512], from: &[u16], to: &[u16], width: &[u32], order: &[u16], map: &mut [u16; 512], ladder: &mut [u16], r: usize, g: usize) -> usize
     requires { ⌜ Ready (graphOf (now costs) (now starts) (now ends) (now widths)) (rowAt (graphOf (now costs) (now starts) (now ends) (now widths)) (now ladder) r) g ⌝ }
+    requires { ⌜ Carries (graphOf (now costs) (now starts) (now ends) (now widths)) (rowAt (graphOf (now costs) (now starts) (now ends) (now widths)) (now ladder) r) g (now weights) (now from) (now to) (now width) (now order) ⌝ }
+    requires { ⌜ now id ≡ identity g ⌝ }
     requires { ⌜ (r < 8) × (k ≤ 16) ⌝ }
     requires { ⌜ 9 * length (now costs) ≤ length (now ladder) ⌝ }
-    ensures { λ x. ⌜ Climbed (graphOf (now (costs .entry)) (now (starts .entry)) (now (ends .entry)) (now (widths .entry))) k bound r (now (ladder .entry)) (now (ladder .exit)) x ⌝ }
+    ensures { λ x. ⌜ Climbs (graphOf (now (costs .entry)) (now (starts .entry)) (now (ends .entry)) (now (widths .entry))) k bound r (now (ladder .entry)) (now (ladder .exit)) (now (map .exit)) x ⌝ }
 {
     if g <= 2 * k {
         return 0;
@@ -63,7 +71,7 @@ fn climb(costs: &[u16], starts: &[u16], ends: &[u16], widths: &[u16], k: usize, 
     let b = a + n;
     let e = b + n;
     let mut out = [0; 512];
-    let t = try_round(costs, &ladder[a..b], starts, ends, widths, g, bound, &mut out);
+    let t = try_round(costs, &ladder[a..b], starts, ends, widths, id, weights, from, to, width, order, g, bound, map, &mut out);
     if 10 * t.pairs < g {
         return 0;
     }
@@ -71,17 +79,76 @@ fn climb(costs: &[u16], starts: &[u16], ends: &[u16], widths: &[u16], k: usize, 
     t.clusters
 }
 
-// The rounds above row 0, which stands in the front of the ladder. Answers how many were kept.
-fn rise(costs: &[u16], starts: &[u16], ends: &[u16], widths: &[u16], k: usize, bound: u32, ladder: &mut [u16]) -> usize
-    requires { ⌜ Buildable (graphOf (now costs) (now starts) (now ends) (now widths)) k ⌝ }
-    requires { ⌜ 9 * length (now costs) ≤ length (now ladder) ⌝ }
-    requires { ⌜ rowAt (graphOf (now costs) (now starts) (now ends) (now widths)) (now ladder) 0 ≡ identity (length (now costs)) ⌝ }
-    ensures { λ x. ⌜ Built (graphOf (now (costs .entry)) (now (starts .entry)) (now (ends .entry)) (now (widths .entry))) k bound (now (ladder .entry)) (now (ladder .exit)) x ⌝ }
+// The lists, the costs and the order of row r + 1 after those of row r: map gives each of the g clusters its new number, one of h.
+fn hand_on(id: &[u16], map: &[u16; 512], n: usize, m: usize, r: usize, g: usize, h: usize, froms: &mut [u16], tos: &mut [u16], wides: &mut [u32], sizes: &mut [u16; 9], orders: &mut [u16], weights: &mut [u32; 512])
+    requires { ⌜ Maps (now map) g h × (now id ≡ identity 512) × (h ≤ n) ⌝ }
+    requires { ⌜ HandsOn n m r g (now froms) (now tos) (now wides) (now sizes) (now orders) (now weights) ⌝ }
+    ensures { λ _. ⌜ HandedOn (now (map .entry)) n m r g h (now (froms .entry)) (now (tos .entry)) (now (wides .entry)) (now (sizes .entry)) (now (orders .entry)) (now (weights .entry)) (now (froms .exit)) (now (tos .exit)) (now (wides .exit)) (now (sizes .exit)) (now (orders .exit)) (now (weights .exit)) ⌝ }
 {
+    let size = folds::wide(sizes[r]);
+    let a = r * m;
+    let b = a + m;
+    let count = row_lists::carry(map, g, h, a, size, b, froms, tos, wides);
+    sizes[r + 1] = count as u16;
+    row_lists::merge(map, g, weights);
+    let e = b + count;
+    let c = r * n + n;
+    topology::order(&id[..h], &froms[b..e], &tos[b..e], h, &mut orders[c..c + n]);
+}
+
+// The round on row r, by what is carried of it.
+fn climb_at(costs: &[u16], starts: &[u16], ends: &[u16], widths: &[u16], k: usize, bound: u32, id: &[u16], ladder: &mut [u16], froms: &[u16], tos: &[u16], wides: &[u32], sizes: &[u16; 9], orders: &[u16], weights: &[u32; 512], map: &mut [u16; 512], r: usize, g: usize) -> usize
+    requires { ⌜ Ready (graphOf (now costs) (now starts) (now ends) (now widths)) (rowAt (graphOf (now costs) (now starts) (now ends) (now widths)) (now ladder) r) g × Sound (graphOf (now costs) (now starts) (now ends) (now widths)) (rowAt (graphOf (now costs) (now starts) (now ends) (now widths)) (now ladder) r) ⌝ }
+    requires { ⌜ Carrying (graphOf (now costs) (now starts) (now ends) (now widths)) (now ladder) r g (now froms) (now tos) (now wides) (now sizes) (now orders) (now weights) ⌝ }
+    requires { ⌜ Room (graphOf (now costs) (now starts) (now ends) (now widths)) (now ladder) (now froms) (now tos) (now wides) (now sizes) (now orders) ⌝ }
+    requires { ⌜ (r < 8) × (k ≤ 16) × (now id ≡ identity 512) × (g ≤ length (now costs)) ⌝ }
+    ensures { λ x. ⌜ Climbs (graphOf (now (costs .entry)) (now (starts .entry)) (now (ends .entry)) (now (widths .entry))) k bound r (now (ladder .entry)) (now (ladder .exit)) (now (map .exit)) x ⌝ }
+{
+    let n = costs.len();
+    let size = folds::wide(sizes[r]);
+    let a = r * n;
+    let b = a + n;
+    let c = r * starts.len();
+    let d = c + size;
+    climb(costs, starts, ends, widths, k, bound, &id[..g], weights, &froms[c..d], &tos[c..d], &wides[c..d], &orders[a..b], map, ladder, r, g)
+}
+
+// A round on row r; where it is kept, what is carried of row r + 1 stands after what is carried of row r.
+// Answers the clusters of row r + 1, or 0 where no round was kept.
+fn step(costs: &[u16], starts: &[u16], ends: &[u16], widths: &[u16], k: usize, bound: u32, id: &[u16], ladder: &mut [u16], froms: &mut [u16], tos: &mut [u16], wides: &mut [u32], sizes: &mut [u16; 9], orders: &mut [u16], weights: &mut [u32; 512], r: usize, g: usize) -> usize
+    requires { ⌜ Ready (graphOf (now costs) (now starts) (now ends) (now widths)) (rowAt (graphOf (now costs) (now starts) (now ends) (now widths)) (now ladder) r) g × Sound (graphOf (now costs) (now starts) (now ends) (now widths)) (rowAt (graphOf (now costs) (now starts) (now ends) (now widths)) (now ladder) r) ⌝ }
+    requires { ⌜ Carrying (graphOf (now costs) (now starts) (now ends) (now widths)) (now ladder) r g (now froms) (now tos) (now wides) (now sizes) (now orders) (now weights) ⌝ }
+    requires { ⌜ Room (graphOf (now costs) (now starts) (now ends) (now widths)) (now ladder) (now froms) (now tos) (now wides) (now sizes) (now orders) ⌝ }
+    requires { ⌜ (r < 8) × (k ≤ 16) × (now id ≡ identity 512) × (g ≤ length (now costs)) ⌝ }
+    ensures { λ x. ⌜ Steps (graphOf (now (costs .entry)) (now (starts .entry)) (now (ends .entry)) (now (widths .entry))) k bound r (now (ladder .entry)) (now (ladder .exit)) (now (froms .exit)) (now (tos .exit)) (now (wides .exit)) (now (sizes .exit)) (now (orders .exit)) (now (weights .exit)) x ⌝ }
+    ensures { λ _. ⌜ Room (graphOf (now (costs .entry)) (now (starts .entry)) (now (ends .entry)) (now (widths .entry))) (now (ladder .exit)) (now (froms .exit)) (now (tos .exit)) (now (wides .exit)) (now (sizes .exit)) (now (orders .exit)) ⌝ }
+{
+    let mut map = [0; 512];
+    let h = climb_at(costs, starts, ends, widths, k, bound, id, ladder, froms, tos, wides, sizes, orders, weights, &mut map, r, g);
+    if h == 0 {
+        return 0;
+    }
+    hand_on(id, &map, costs.len(), starts.len(), r, g, h, froms, tos, wides, sizes, orders, weights);
+    h
+}
+
+// The rounds above row 0, which stands in the front of the ladder, with what is carried of it. Answers how many were kept.
+fn rise(costs: &[u16], starts: &[u16], ends: &[u16], widths: &[u16], k: usize, bound: u32, ladder: &mut [u16], froms: &mut [u16], tos: &mut [u16], wides: &mut [u32], sizes: &mut [u16; 9], orders: &mut [u16]) -> usize
+    requires { ⌜ Buildable (graphOf (now costs) (now starts) (now ends) (now widths)) k ⌝ }
+    requires { ⌜ Room (graphOf (now costs) (now starts) (now ends) (now widths)) (now ladder) (now froms) (now tos) (now wides) (now sizes) (now orders) ⌝ }
+    requires { ⌜ rowAt (graphOf (now costs) (now starts) (now ends) (now widths)) (now ladder) 0 ≡ identity (length (now costs)) ⌝ }
+    requires { ⌜ Carried (graphOf (now costs) (now starts) (now ends) (now widths)) (rowAt (graphOf (now costs) (now starts) (now ends) (now widths)) (now ladder)) 0 (now froms) (now tos) (now wides) (now sizes) (now orders) ⌝ }
+    ensures { λ x. ⌜ Built (graphOf (now (costs .entry)) (now (starts .entry)) (now (ends .entry)) (now (widths .entry))) k bound (now (ladder .entry)) (now (ladder .exit)) x ⌝ }
+    ensures { λ x. ⌜ Carried (graphOf (now (costs .entry)) (now (starts .entry)) (now (ends .entry)) (now (widths .entry))) (rowAt (graphOf (now (costs .entry)) (now (starts .entry)) (now (ends .entry)) (now (widths .entry))) (now (ladder .exit))) x (now (froms .exit)) (now (tos .exit)) (now (wides .exit)) (now (sizes .exit)) (now (orders .exit)) ⌝ }
+{
+    let mut id = [0; 512];
+    let mut weights = [0; 512];
+    first_row(&mut id);
+    row_lists::weigh(costs, &mut weights);
     let mut g = costs.len();
     let mut r: usize = 0;
     while r < 8 {
-        let h = climb(costs, starts, ends, widths, k, bound, ladder, r, g);
+        let h = step(costs, starts, ends, widths, k, bound, &id, ladder, froms, tos, wides, sizes, orders, &mut weights, r, g);
         if h == 0 {
             return r;
         }
@@ -91,13 +158,17 @@ fn rise(costs: &[u16], starts: &[u16], ends: &[u16], widths: &[u16], k: usize, b
     r
 }
 
-// Builds the hierarchy: rows 0 to the rounds kept, whose number it answers. Entries past those rows are left alone.
-pub fn build(costs: &[u16], starts: &[u16], ends: &[u16], widths: &[u16], k: usize, bound: u32, ladder: &mut [u16]) -> usize
+// Builds the hierarchy: rows 0 to the rounds kept, whose number it answers, with the lists and the order of each.
+// Entries past those rows are left alone.
+pub fn build(costs: &[u16], starts: &[u16], ends: &[u16], widths: &[u16], k: usize, bound: u32, ladder: &mut [u16], froms: &mut [u16], tos: &mut [u16], wides: &mut [u32], sizes: &mut [u16; 9], orders: &mut [u16]) -> usize
     requires { ⌜ Buildable (graphOf (now costs) (now starts) (now ends) (now widths)) k ⌝ }
-    requires { ⌜ 9 * length (now costs) ≤ length (now ladder) ⌝ }
+    requires { ⌜ Room (graphOf (now costs) (now starts) (now ends) (now widths)) (now ladder) (now froms) (now tos) (now wides) (now sizes) (now orders) ⌝ }
     ensures { λ x. ⌜ Built (graphOf (now (costs .entry)) (now (starts .entry)) (now (ends .entry)) (now (widths .entry))) k bound (now (ladder .entry)) (now (ladder .exit)) x ⌝ }
+    ensures { λ x. ⌜ Carried (graphOf (now (costs .entry)) (now (starts .entry)) (now (ends .entry)) (now (widths .entry))) (rowAt (graphOf (now (costs .entry)) (now (starts .entry)) (now (ends .entry)) (now (widths .entry))) (now (ladder .exit))) x (now (froms .exit)) (now (tos .exit)) (now (wides .exit)) (now (sizes .exit)) (now (orders .exit)) ⌝ }
 {
     let n = costs.len();
     first_row(&mut ladder[0..n]);
-    rise(costs, starts, ends, widths, k, bound, ladder)
+    topology::order(&ladder[0..n], starts, ends, n, orders);
+    row_lists::first(starts, ends, widths, froms, tos, wides, sizes);
+    rise(costs, starts, ends, widths, k, bound, ladder, froms, tos, wides, sizes, orders)
 }

@@ -1,30 +1,18 @@
--- Laws of the loops that count clusters, invert the order and give each vertex its position.
-use Prim.Native.Nat.{ℕ, _+_, _≤_, _<_, max}
-use mathlib.Core.Path.{_≡_, refl, ap, sym, _∙_}
+-- Laws of the loops that invert the order and give each vertex its position.
+use Prim.Native.Nat.{ℕ, _+_, _≤_, _<_}
+use mathlib.Core.Path.{_≡_, ap, sym, _∙_}
 use mathlib.Core.List.{List}
-use native.Mathlib.Numerals.{add-one}
 use native.Mathlib.Omega.{arith}
-use lib.ListN.{length, getD, set, length-set, List·getD-append}
-use lib.Seq.{getD-set-same, getD-set-other}
-use Rattle.folds.specs.Fold.{maxTo, over}
+use lib.ListN.{length, getD, set, length-set, take, length-take}
+use lib.Seq.{getD-set-same, getD-set-other, getD-take}
 use Rattle.folds.proofs.Cases.{either, eq-or-ne}
 use Rattle.folds.proofs.Lists.{listTo-ext}
-use Rattle.folds.proofs.Slices.{length-over}
 use Rattle.graph.specs.Walk.{Acyclic}
-use Rattle.graph.specs.Graph.{Arcs, arcs, Edge, Inside, through}
-use Rattle.graph.specs.Links.{Joins}
+use Rattle.graph.specs.Graph.{Arcs, Edge, Inside, through}
 use Rattle.topology.specs.Order.{orderOf, placeIn}
 use Rattle.topology.proofs.Orders.{order-all, order-below, order-once, place-at}
 use Rattle.initial.specs.Initial.{placesIn}
 use Rattle.initial.specs.Positions.{Once, Inverse}
-
-pub max-turn : {m x v : ℕ} (f : ℕ → ℕ) → m ≡ maxTo v f → x ≡ f v → max m x ≡ maxTo (v + 1) f
-unfolding maxTo
-max-turn {m} {x} {v} f e h = rw (add-one, e, h)
-
-pub max-none : (f : ℕ → ℕ) → 0 ≡ maxTo 0 f
-unfolding maxTo
-max-none f = refl
 
 pub inverse-none : {order at : List ℕ} → length at ≡ 512 → Inverse 0 order at
 inverse-none t = record { tall = t; is = λ i l. absurd (omega arith) }
@@ -39,30 +27,29 @@ inverse-turn {g} {i} {a} {order} {at} O l e I =
           (λ n. getD-set-other at a (getD order k 0) i 0 (λ q. n (O .once k i (omega arith) l (q ∙ e))) ∙ I .is k (omega arith));
     }
 
-pub joins-inside : {row starts ends : List ℕ} {g : ℕ} → Joins row starts ends → ((v : ℕ) → v < length row → getD row v 0 < g) → Inside (arcs row starts ends) g
-joins-inside J low j h = (low _ (J .out .in-row j h), low _ (J .into .in-row j (omega (arith, J .same))))
-
--- the order that topology writes, and its inverse
-module _ (A : Arcs) (g : ℕ) (inside : Inside A g) (small : g ≤ 512) (acyclic : Acyclic (Edge A)) where
+-- the order of a row's clusters, and its inverse
+module _ (A : Arcs) (g : ℕ) (order : List ℕ) (inside : Inside A g) (small : g ≤ 512) (acyclic : Acyclic (Edge A)) (q : take g order ≡ orderOf A g) where
   all : length (orderOf A g) ≡ g
   all = order-all A g inside small acyclic
 
-  front : (l : List ℕ) (i : ℕ) → i < g → getD (over (orderOf A g) l) i 0 ≡ getD (orderOf A g) i 0
-  unfolding over
-  front l i h = List·getD-append (orderOf A g) _ 0 i (omega (arith, all))
+  long : g ≤ length order
+  long = omega (arith, all, length-take g order, ap length q)
 
-  pub order-once-over : (l : List ℕ) → length l ≡ 512 → Once g (over (orderOf A g) l)
-  order-once-over l t =
+  front : (i : ℕ) → i < g → getD order i 0 ≡ getD (orderOf A g) i 0
+  front i h = sym (getD-take g order i 0 h) ∙ ap (λ (l : List ℕ). getD l i 0) q
+
+  pub order-is-once : Once g order
+  order-is-once =
       record {
-        tall = length-over (orderOf A g) l (omega (arith, all)) ∙ t;
-        low = λ i h. rw (front l i h) (omega (arith, order-below A g inside small i (omega (arith, all))));
-        once = λ i j h k q. order-once A g inside small i j (omega (arith, all)) (omega (arith, all)) (sym (front l i h) ∙ q ∙ front l j k);
+        long = long;
+        low = λ i h. rw (front i h) (omega (arith, order-below A g inside small i (omega (arith, all))));
+        once = λ i j h k e. order-once A g inside small i j (omega (arith, all)) (omega (arith, all)) (sym (front i h) ∙ e ∙ front j k);
       }
 
-  pub through-places : (row l at : List ℕ) → ((v : ℕ) → v < length row → getD row v 0 < g) → Inverse g (over (orderOf A g) l) at → through row at ≡ placesIn A g row
+  pub through-places : (row at : List ℕ) → ((v : ℕ) → v < length row → getD row v 0 < g) → Inverse g order at → through row at ≡ placesIn A g row
   unfolding through placesIn
-  through-places row l at low I =
+  through-places row at low I =
       listTo-ext (length row) _ _ (λ v h.
       let c = getD row v 0 in
-      let (p, q) = place-at A g inside small all c (low v h) in
-      ap (λ (x : ℕ). getD at x 0) (sym (front l (placeIn (orderOf A g) c) p ∙ q)) ∙ I .is (placeIn (orderOf A g) c) p)
+      let (p, e) = place-at A g inside small all c (low v h) in
+      ap (λ (x : ℕ). getD at x 0) (sym (front (placeIn (orderOf A g) c) p ∙ e)) ∙ I .is (placeIn (orderOf A g) c) p)

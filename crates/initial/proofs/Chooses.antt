@@ -7,10 +7,10 @@ use native.Mathlib.Omega.{arith}
 use lib.ListN.{length, take, drop}
 use Rattle.folds.specs.Fold.{over, part}
 use Rattle.folds.proofs.Lists.{row-in}
-use Rattle.graph.specs.Graph.{Graph}
+use Rattle.graph.specs.Graph.{Graph, vertices}
 use Rattle.division.specs.Division.{Pick, none, some}
 use Rattle.initial.specs.Initial.{Chosen, found, uncut, orLower, highest, initialOf, chosenOf}
-use Rattle.initial.specs.Answers.{foundOf, tableAfter, Answers, initialAs, chosenAfter, Chooses, Lent}
+use Rattle.initial.specs.Answers.{foundOf, tableAfter, Answers, initialAs, chosenAfter, Chooses, Lent, Ordered}
 use Rattle.graph.specs.Rows.{rowsIn}
 use Rattle.initial.specs.declared.Initial.{Initial}
 use Rattle.initial.specs.declared.Initial.the-variants.{At, Uncut}
@@ -63,6 +63,9 @@ row-part rows n r = let q : r * n + n - r * n ≡ n = omega arith in rw q
 
 pub lent-row : {n k top : ℕ} {rows table : List ℕ} (r : ℕ) → Lent n k top rows table → r ≤ top → r * n + n ≤ length rows
 lent-row {n} {k} {top} r L l = omega (arith, L .long, row-in r (suc top) n (omega arith))
+
+pub order-row : {G : Graph} {rows : ℕ → List ℕ} {top : ℕ} {orders : List ℕ} (r : ℕ) → Ordered G rows top orders → r ≤ top → r * vertices G + vertices G ≤ length orders
+order-row {G} {top = top} r O l = omega (arith, O .long, row-in r (suc top) (vertices G) (omega arith))
 
 -- for a caller: what an answer of `choose` says
 pub chooses-at : {x : Chosen} {old new : List ℕ} {a : Initial} {r c : ℕ} → Chooses x old new a → a ≡ At r c → (t : List ℕ) × (x ≡ found r t c) × (new ≡ over t old)

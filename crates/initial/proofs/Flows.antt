@@ -1,30 +1,26 @@
 -- What the arrays of the sweep hold, position by position from the last down.
 use Prim.Native.Nat.{ℕ, _+_, _-_, _≤_, _<_}
-use mathlib.Core.Path.{_≡_, refl, sym, _∙_}
+use mathlib.Core.Path.{_≡_, refl, ap, sym, _∙_}
 use mathlib.Core.Bool.{_&&_}
 use mathlib.Core.List.{List}
 use native.Mathlib.Omega.{arith}
-use lib.Dec.{leb, eqb}
+use lib.Dec.{leb, ltb}
 use lib.ListN.{length, getD, set, length-set}
 use lib.Seq.{getD-set-same, getD-set-other}
 use Rattle.folds.specs.Fold.{when, zeros}
 use Rattle.folds.proofs.Cases.{either, eq-or-ne, when-le}
 use Rattle.folds.proofs.Sums.{sumTo-le}
 use Rattle.folds.proofs.Lists.{getD-zeros, length-zeros}
-use Rattle.graph.specs.Graph.{Graph, vertices, edges, via, costIn, RowOf, Proper}
+use Rattle.graph.specs.Graph.{Graph, vertices, edges, via, RowOf, Proper}
 use Rattle.graph.specs.Links.{Ends, Joins}
-use Rattle.division.specs.Division.{between}
-use Rattle.division.specs.Table.{span, Weights, Blank, Column, Done}
-use Rattle.division.proofs.Intervals.{outOf, intoFrom, into-next, into-none}
+use Rattle.division.specs.Table.{span, within, Weights, Column, Done}
+use Rattle.division.proofs.Intervals.{leaving, outOf, leaving-none, leaving-next, into-next, into-none}
 use Rattle.division.proofs.Spans.{span-between, between-small, span-leaves}
-use Rattle.division.proofs.Tables.{done-next}
-use Rattle.initial.specs.Initial.{roomy}
-use Rattle.initial.specs.Positions.{Placed, Spots, Weighed, fromTo, startingAt, Room, Gathered, leavingOf, Flows, Tabled}
+use Rattle.division.proofs.Tables.{span-mono, span-narrow, span-front, done-next}
+use Rattle.initial.specs.Positions.{Placed, fromTo, startingAt, Room, Gathered, Positioned, leavingBy, awayBy, enteringBy, Aways, Flows, Costs, Tabled}
+use Rattle.initial.proofs.Gathers.{enters-small, enters-end}
 
 -- rows that the code can walk
-pub row-spots : {G : Graph} {g : ℕ} {row : List ℕ} → Proper G → g ≤ 512 → RowOf G row g → Spots (vertices G) row
-row-spots P l R = record { whole = R .whole; few = P .few; low = λ v h. omega (arith, R .below v h) }
-
 row-ends : {G : Graph} {g : ℕ} {row ends : List ℕ} → Proper G → g ≤ 512 → RowOf G row g → length ends ≡ edges G → ((j : ℕ) → j < edges G → getD ends j 0 < vertices G) → Ends row ends
 row-ends P l R e inside =
     record {
@@ -42,93 +38,113 @@ row-joins P l R =
       same = P .formed .same-ends;
     }
 
-module _ (G : Graph) (g : ℕ) (places : List ℕ) (P : Proper G) (S : Placed G g places) where
-  pub flows-none : (away : List ℕ) → length away ≡ 512 → Flows G places g g away (zeros 512)
+-- positions as the code takes them
+pub placed-edges : {G : Graph} {g : ℕ} {places : List ℕ} → Proper G → g ≤ 512 → Placed G g places → Positioned places (G .starts) (G .ends) (G .widths) g
+placed-edges P l S =
+    record { joins = row-joins P l (S .row); same = P .formed .same-widths; below = λ j h. S .row .below _ (P .formed .start-in j h); forward = S .forward }
+
+pub positioned-all : {places starts ends widths : List ℕ} {g : ℕ} → g ≤ 512 → Positioned places starts ends widths g → Positioned places starts ends widths 512
+positioned-all l P = record { joins = P .joins; same = P .same; below = λ j h. omega (arith, P .below j h); forward = P .forward }
+
+-- the cost of all from y - 1 on
+pub rest-next : (cost : List ℕ) {g y rest : ℕ} → 0 < y → y ≤ g → rest ≡ span cost y g → rest + getD cost (y - 1) 0 ≡ span cost (y - 1) g
+rest-next cost {g} {y} l h e =
+    let q : y ≡ (y - 1) + 1 = omega arith in omega (arith, span-front cost (y - 1) g (omega arith), ap (λ (i : ℕ). span cost i g) q)
+
+pub rest-room : {cost : List ℕ} {g y rest : ℕ} → Costs cost g → 0 < y → y ≤ g → rest ≡ span cost y g → rest + getD cost (y - 1) 0 ≤ 33553920
+rest-room {cost} {g} {y} C l h e = omega (arith, rest-next cost l h e, C .light, span-narrow cost 0 (y - 1) g (omega arith))
+
+module _ {places starts ends widths : List ℕ} {g : ℕ} (P : Positioned places starts ends widths g) where
+  -- what leaves an interval is no more than all
+  pub leaving-small : ((k : ℕ) → getD widths k 0 < 65536) → (y x : ℕ) → leavingBy places starts ends widths y x ≤ 67107840
+  unfolding leavingBy leaving
+  leaving-small n y x =
+      let b = sumTo-le (length starts) 65535 (λ j. when (leb y (via places starts j) && ltb (via places starts j) x && leb x (via places ends j)) (getD widths j 0))
+      (λ j. omega (arith, n j, when-le (leb y (via places starts j) && ltb (via places starts j) x && leb x (via places ends j)) (getD widths j 0))) in
+      omega (arith, b, P .joins .out .few)
+
+  pub entering-small : ((k : ℕ) → getD widths k 0 < 65536) → (y x : ℕ) → enteringBy places starts ends widths y x ≤ 67107840
+  entering-small n y x = omega (arith, enters-small places starts ends widths y x (length starts) n, enters-end places starts ends widths y x refl, P .joins .out .few)
+
+  pub leaving-first : (y : ℕ) → 0 ≡ leavingBy places starts ends widths y y
+  unfolding leavingBy
+  leaving-first y = sym (leaving-none (length starts) (via places starts) (via places ends) (λ j. getD widths j 0) y)
+
+  pub leaving-more : {y x out : ℕ} {away : List ℕ} → Aways places starts ends widths (x + 1) 0 away → y ≤ x → out ≡ leavingBy places starts ends widths y x
+      → out + getD away x 0 ≡ leavingBy places starts ends widths y (x + 1) + enteringBy places starts ends widths y x
+  unfolding leavingBy enteringBy awayBy
+  leaving-more {y} {x} A l e =
+      omega (arith, A .outs x (omega arith) (omega arith), leaving-next (length starts) (via places starts) (via places ends) (λ j. getD widths j 0) (P .forward) y x l)
+
+  pub flows-none : (away : List ℕ) → length away ≡ 512 → Flows places starts ends widths g g away (zeros 512)
+  unfolding enteringBy
   flows-none away t =
       record {
-        wide = t;
+        aways = record { wide = t; outs = λ x l h. absurd (omega arith) };
         deep = length-zeros 512;
-        outs = λ x l h. absurd (omega arith);
-        intos = λ x. getD-zeros 512 x ∙ sym (into-none (edges G) (via places (G .starts)) (via places (G .ends)) (λ j. getD (G .widths) j 0) (S .forward) g x (λ j l. S .row .below _ (P .formed .start-in j l)));
+        intos = λ x. getD-zeros 512 x ∙ sym (into-none (length starts) (via places starts) (via places ends) (λ j. getD widths j 0) (P .forward) g x (P .below));
       }
 
-  pub flows-next : (y : ℕ) (away into into′ : List ℕ) (r : ℕ) → y < 512 → Flows G places g (y + 1) away into
-      → Gathered places (G .starts) (G .ends) (G .widths) y (edges G) into into′ r → Flows G places g y (set away y r) into′
-  unfolding outOf fromTo startingAt
+  flows-next : (y : ℕ) (away into into′ : List ℕ) (r : ℕ) → y < 512 → Flows places starts ends widths g (y + 1) away into
+      → Gathered places starts ends widths y (length starts) into into′ r → Flows places starts ends widths g y (set away y r) into′
+  unfolding awayBy enteringBy outOf fromTo startingAt
   flows-next y away into into′ r ly F R =
       record {
-        wide = length-set away y r ∙ F .wide;
+        aways = record {
+          wide = length-set away y r ∙ F .aways .wide;
+          outs = λ x l h.
+              either (eq-or-ne x y)
+              (λ q. rw (q, getD-set-same away y r 0 (omega (arith, F .aways .wide))) (R .sums))
+              (λ n. getD-set-other away y x r 0 n ∙ F .aways .outs x (omega arith) h);
+        };
         deep = R .tall;
-        outs = λ x l h.
-            either (eq-or-ne x y)
-            (λ q. rw (q, getD-set-same away y r 0 (omega (arith, F .wide))) (R .sums))
-            (λ n. getD-set-other away y x r 0 n ∙ F .outs x (omega arith) h);
-        intos = λ x. R .adds x ∙ rw (F .intos x) (sym (into-next (edges G) (via places (G .starts)) (via places (G .ends)) (λ j. getD (G .widths) j 0) (S .forward) y x));
+        intos = λ x. R .adds x ∙ rw (F .intos x) (sym (into-next (length starts) (via places starts) (via places ends) (λ j. getD widths j 0) (P .forward) y x));
       }
-
-  -- the same at the code's y - 1
-  pub flows-down : (y : ℕ) (away into into′ : List ℕ) (r : ℕ) → 0 < y → y ≤ 512 → Flows G places g y away into
-      → Gathered places (G .starts) (G .ends) (G .widths) (y - 1) (edges G) into into′ r → Flows G places g (y - 1) (set away (y - 1) r) into′
-  flows-down y away into into′ r l h F R =
-      let q : y ≡ (y - 1) + 1 = omega arith in flows-next (y - 1) away into into′ r (omega arith) (rw q at F) R
 
   -- the widths that come in are no more than all
-  pub flows-room : {y : ℕ} {away into : List ℕ} → Flows G places g y away into → ((k : ℕ) → getD (G .widths) k 0 < 65536) → Room into
-  unfolding intoFrom
-  flows-room {y} F n =
-      record {
-        tall = F .deep;
-        low = λ x.
-            let b = sumTo-le (edges G) 65535 (λ j. when (leb y (via places (G .starts) j) && eqb (via places (G .ends) j) x) (getD (G .widths) j 0))
-            (λ j. omega (arith, n j, when-le (leb y (via places (G .starts) j) && eqb (via places (G .ends) j) x) (getD (G .widths) j 0))) in
-            omega (arith, F .intos x, b, P .many);
-      }
+  pub flows-room : {y : ℕ} {away into : List ℕ} → Flows places starts ends widths g y away into → ((k : ℕ) → getD widths k 0 < 65536) → Room into
+  flows-room {y} F n = record { tall = F .deep; low = λ x. omega (arith, F .intos x, entering-small n y x) }
 
-  module _ (y : ℕ) (cost away into : List ℕ) (C : Weighed (G .costs) places (vertices G) cost) (F : Flows G places g y away into) where
-    cost-between : (x : ℕ) → y ≤ x → x ≤ g → span cost y x ≡ between (vertices G) (λ v. getD places v 0) (λ v. getD (G .costs) v 0) y x
-    unfolding costIn
-    cost-between = span-between (vertices G) (λ v. getD places v 0) (λ v. getD (G .costs) v 0) cost y g (λ x l h. C .is x)
-
-    away-between : (x : ℕ) → y ≤ x → x ≤ g → span away y x ≡ between (edges G) (via places (G .starts)) (λ j. getD (G .widths) j 0) y x
-    unfolding outOf
-    away-between = span-between (edges G) (via places (G .starts)) (λ j. getD (G .widths) j 0) away y g (F .outs)
-
-    away-leaves : (x : ℕ) → y ≤ x → x ≤ g → span away y x ≡ leavingOf G places y x + span into y x
-    unfolding leavingOf
+  module _ (y : ℕ) (away into : List ℕ) (F : Flows places starts ends widths g y away into) where
+    away-leaves : (x : ℕ) → y ≤ x → x ≤ g → span away y x ≡ leavingBy places starts ends widths y x + span into y x
+    unfolding leavingBy awayBy enteringBy
     away-leaves =
-        span-leaves (edges G) (via places (G .starts)) (via places (G .ends)) (λ j. getD (G .widths) j 0) (S .forward) away into y g (F .outs) (λ x _ _. F .intos x)
+        span-leaves (length starts) (via places starts) (via places ends) (λ j. getD widths j 0) (P .forward) away into y g (F .aways .outs) (λ x _ _. F .intos x)
 
-    pub flows-weights : ((k : ℕ) → getD (G .costs) k 0 < 65536) → ((k : ℕ) → getD (G .widths) k 0 < 65536) → Weights g y cost away into
-    flows-weights nc nw =
+    flows-weights : (cost : List ℕ) → Costs cost g → ((k : ℕ) → getD widths k 0 < 65536) → Weights g y cost away into
+    unfolding awayBy outOf
+    flows-weights cost C n =
         record {
           tall = C .tall;
-          wide = F .wide;
+          wide = F .aways .wide;
           deep = F .deep;
-          light = λ x l h. omega (arith, cost-between x l h, P .few, between-small (vertices G) (λ v. getD places v 0) (λ v. getD (G .costs) v 0) y x 65535 (λ v. omega (arith, nc v)));
-          narrow = λ x l h. omega (arith, away-between x l h, P .many, between-small (edges G) (via places (G .starts)) (λ j. getD (G .widths) j 0) y x 65535 (λ j. omega (arith, nw j)));
+          light = λ x l h. omega (arith, C .light, span-narrow cost 0 y x (omega arith), span-mono cost 0 x g h);
+          narrow = λ x l h.
+              omega (
+                arith,
+                span-between (length starts) (via places starts) (λ j. getD widths j 0) away y g (F .aways .outs) x l h,
+                P .joins .out .few,
+                between-small (length starts) (via places starts) (λ j. getD widths j 0) y x 65535 (λ j. omega (arith, n j)),
+              );
           covers = λ x l h. omega (arith, away-leaves x l h);
         }
 
-    done-row : (bound n : ℕ) (cuts nexts cuts′ nexts′ : List ℕ) → y < g → n < 16 → Done g (roomy G bound places) (leavingOf G places) n (y + 1) cuts nexts
-        → Column bound n y g cost away into cuts nexts cuts′ nexts′ → Done g (roomy G bound places) (leavingOf G places) n y cuts′ nexts′
-    unfolding roomy
-    done-row bound n cuts nexts cuts′ nexts′ ly ln D K =
-        done-next ly ln (λ x l h. rw (cost-between x l h)) away-leaves D K
-
   -- a turn: what the sweep of position y - 1 asks, and what it leaves
-  module _ (bound n y : ℕ) (cost away into into′ cuts nexts : List ℕ) (r : ℕ) (ly : 0 < y) (lg : y ≤ g) (small : g ≤ 512) (ln : n < 16)
-      (C : Weighed (G .costs) places (vertices G) cost) (F : Flows G places g y away into) (R : Gathered places (G .starts) (G .ends) (G .widths) (y - 1) (edges G) into into′ r)
-      (D : Tabled G bound places g n y cuts nexts) where
-    pub turn-flows : Flows G places g (y - 1) (set away (y - 1) r) into′
-    turn-flows = flows-down y away into into′ r ly (omega arith) F R
+  module _ (bound y : ℕ) (cost away into into′ cuts : List ℕ) (r rest : ℕ) (ly : 0 < y) (lg : y ≤ g) (small : g ≤ 512) (n : (k : ℕ) → getD widths k 0 < 65536)
+      (C : Costs cost g) (F : Flows places starts ends widths g y away into) (R : Gathered places starts ends widths (y - 1) (length starts) into into′ r)
+      (e : rest ≡ span cost y g) (D : Done g (within cost bound) (leavingBy places starts ends widths) y cuts) where
+    pub turn-flows : Flows places starts ends widths g (y - 1) (set away (y - 1) r) into′
+    turn-flows = let q : y ≡ (y - 1) + 1 = omega arith in flows-next (y - 1) away into into′ r (omega arith) (rw q at F) R
 
-    pub turn-weights : ((k : ℕ) → getD (G .costs) k 0 < 65536) → ((k : ℕ) → getD (G .widths) k 0 < 65536) → Weights g (y - 1) cost (set away (y - 1) r) into′
-    turn-weights = flows-weights (y - 1) cost (set away (y - 1) r) into′ C turn-flows
+    pub turn-weights : Weights g (y - 1) cost (set away (y - 1) r) into′
+    turn-weights = flows-weights (y - 1) (set away (y - 1) r) into′ turn-flows cost C n
 
-    pub turn-blank : Blank n (y - 1) cuts nexts
-    turn-blank = record { table = D .table; blank = λ j l. D .blank (y - 1) j (omega arith) (omega arith) }
-
-    pub turn-done : {cuts′ nexts′ : List ℕ} → Column bound n (y - 1) g cost (set away (y - 1) r) into′ cuts nexts cuts′ nexts′ → Tabled G bound places g n (y - 1) cuts′ nexts′
+    pub turn-done : {cuts′ : List ℕ} → Column bound (rest + getD cost (y - 1) 0) (y - 1) g cost (set away (y - 1) r) into′ cuts cuts′
+        → Done g (within cost bound) (leavingBy places starts ends widths) (y - 1) cuts′
     turn-done K =
         let q : y ≡ (y - 1) + 1 = omega arith in
-        done-row (y - 1) cost (set away (y - 1) r) into′ C turn-flows bound n cuts nexts _ _ (omega arith) ln (rw q at D) K
+        done-next (omega arith) (rest-next cost ly lg e) (leaving-small n) (away-leaves (y - 1) (set away (y - 1) r) into′ turn-flows) (rw q at D) K
+
+pub tabled-end : {places starts ends widths cost : List ℕ} {bound g y : ℕ} {away into cuts : List ℕ} → Flows places starts ends widths g y away into
+    → Done g (within cost bound) (leavingBy places starts ends widths) y cuts → Tabled places starts ends widths cost bound g y away cuts
+tabled-end F D = record { aways = F .aways; done = D }

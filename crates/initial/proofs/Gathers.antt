@@ -1,43 +1,28 @@
--- Laws of the loops that gather what lies at each position, what leaves it and what comes into it.
+-- Laws of the loops that gather what leaves each position and what comes into it.
 use Prim.Native.Nat.{ℕ, _+_, _*_, _≤_, _<_}
-use mathlib.Core.Path.{_≡_, refl, sym, _∙_}
+use mathlib.Core.Path.{_≡_, refl, _∙_}
 use mathlib.Core.Bool.{_&&_}
 use mathlib.Core.List.{List}
 use native.Mathlib.Omega.{arith}
-use lib.Dec.{eqb}
+use lib.Dec.{eqb, leb}
 use lib.ListN.{length, getD, set, length-set}
-use borrow.Author.Tests.{eq-eqb, ne-eqb}
-use Rattle.folds.specs.Fold.{when, sumTo, zeros, Read}
-use Rattle.folds.proofs.Cases.{when-le}
-use Rattle.folds.proofs.Sums.{sumTo-zero, sumTo-step, sumTo-le}
-use Rattle.folds.proofs.Lists.{set-add, getD-zeros, length-zeros}
-use Rattle.graph.specs.Graph.{via, costIn}
-use Rattle.graph.specs.Links.{Linked}
-use Rattle.graph.proofs.Edges.{cost-in-le}
+use borrow.Author.Tests.{eq-eqb, ne-eqb, le-leb, lt-leb}
+use Rattle.folds.specs.Fold.{when, sumTo, Read}
+use Rattle.folds.proofs.Cases.{when-le, and-true, and-false}
+use Rattle.folds.proofs.Sums.{sumTo-le}
+use Rattle.folds.proofs.Lists.{set-add}
+use Rattle.graph.specs.Graph.{via}
+use Rattle.graph.specs.Links.{Linked, Cluster}
 use Rattle.graph.proofs.Links.{On, Only, sum-on, sum-next}
-use Rattle.initial.specs.Positions.{Spots, Weighed, fromTo, startingAt, Gathered}
+use Rattle.initial.specs.Positions.{Spots, fromTo, startingAt, Gathered, enteringBy, From}
+use Rattle.division.proofs.Intervals.{intoFrom}
 
 -- a sum of widths or costs
 pub sum-small : (j : ℕ) (f : ℕ → ℕ) (l : List ℕ) → ((k : ℕ) → f k ≤ getD l k 0) → ((k : ℕ) → getD l k 0 < 65536) → sumTo j f ≤ j * 65535
 sum-small j f l h n = sumTo-le j 65535 f (λ k. omega (arith, h k, n k))
 
--- costs of positions
 pub spot-low : {n v b p : ℕ} {places : List ℕ} → Spots n places → v < n → Read places v b p → p < 512
 spot-low S l P = rw (P .is) (S .low _ l)
-
-pub weighed-none : (costs places : List ℕ) → Weighed costs places 0 (zeros 512)
-weighed-none costs places = record { tall = length-zeros 512; is = λ x. getD-zeros 512 x ∙ sym (sumTo-zero (costIn costs places x)) }
-
-pub weighed-room : {costs places cost : List ℕ} {v : ℕ} (p : ℕ) → Weighed costs places v cost → ((k : ℕ) → getD costs k 0 < 65536) → getD cost p 0 ≤ v * 65535
-weighed-room {costs} {places} {cost} {v} p W n = rw (W .is p) (sumTo-le v 65535 _ (cost-in-le costs places p 65535 (λ k. omega (arith, n k))))
-
-pub weighed-turn : {costs places cost : List ℕ} {v p w a b : ℕ} → Read places v a p → Read costs v b w → p < 512 → Weighed costs places v cost → Weighed costs places (v + 1) (set cost p (getD cost p 0 + w))
-unfolding costIn
-weighed-turn {costs} {places} {cost} {v} {p} {w} P R l W =
-    record {
-      tall = length-set cost p (getD cost p 0 + w) ∙ W .tall;
-      is = λ x. set-add cost p w x (omega (arith, W .tall)) ∙ rw (W .is x, P .is, R .is) (sym (sumTo-step v (costIn costs places x)));
-    }
 
 -- edges that start at y
 starting-only : (places starts widths : List ℕ) (y : ℕ) → Only (via places starts) y (startingAt places starts widths y)
@@ -78,3 +63,34 @@ module _ (places starts ends widths head link : List ℕ) (y : ℕ) (ly : y < 51
             let here : when (eqb x z) w ≡ f j = rw (e, W .is, eq-eqb (via places starts j) y (o .at l)) in
             omega (arith, set-add into′ x w z (omega (arith, G .tall)), G .adds z, sum-next L y j (sumTo j f) (when (eqb x z) w) f (from-only places starts ends widths y z) o l refl here);
       }
+
+-- edges that end at x and start at y or later
+pub from-yes : {places starts widths : List ℕ} {y j s : ℕ} → Cluster places starts j s → s < y → From places starts widths y j 0
+from-yes {places} {starts} {widths} {y} {j} C l = record { is = rw (lt-leb y (via places starts j) (rw (C .is) at l)); low = omega arith }
+
+pub from-no : {places starts widths : List ℕ} {y j s r : ℕ} → Cluster places starts j s → y ≤ s → Read widths j 65536 r → From places starts widths y j r
+from-no {places} {starts} {widths} {y} {j} C l R = record { is = rw (le-leb y (via places starts j) (rw (C .is) at l)) (R .is); low = R .low }
+
+module _ (places starts ends widths : List ℕ) (y x : ℕ) where
+  unfoldable pub enters : ℕ → ℕ
+  enters j = when (leb y (via places starts j) && eqb (via places ends j) x) (getD widths j 0)
+
+  enters-only : Only (via places ends) x enters
+  unfolding enters
+  enters-only i n = rw (ne-eqb (via places ends i) x n, and-false)
+
+  module _ {m : ℕ} {head link : List ℕ} (lx : x < 512) (L : Linked (via places ends) m head link) where
+    pub enters-none : 0 ≡ sumTo (getD head x 0) enters
+    enters-none = sum-on L x enters enters-only lx
+
+    pub enters-turn : (j sum w : ℕ) → On (via places ends) m x j → j < m → From places starts widths y j w → sum ≡ sumTo j enters → sum + w ≡ sumTo (getD link j 0) enters
+    unfolding enters
+    enters-turn j sum w o l F e = sum-next L x j sum w enters enters-only o l e (F .is ∙ rw (eq-eqb (via places ends j) x (o .at l), and-true))
+
+  pub enters-small : (j : ℕ) → ((k : ℕ) → getD widths k 0 < 65536) → sumTo j enters ≤ j * 65535
+  unfolding enters
+  enters-small j n = sum-small j enters widths (λ k. when-le (leb y (via places starts k) && eqb (via places ends k) x) (getD widths k 0)) n
+
+  pub enters-end : {m : ℕ} → m ≡ length starts → sumTo m enters ≡ enteringBy places starts ends widths y x
+  unfolding enters enteringBy intoFrom
+  enters-end e = rw e

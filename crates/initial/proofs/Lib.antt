@@ -6,3 +6,4 @@ pub mod Arranges
 pub mod Solves
 pub mod Layers
 pub mod Chooses
+pub mod Follows

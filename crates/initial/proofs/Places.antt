@@ -20,7 +20,7 @@ use Rattle.division.specs.Division.{Rising, Feasible, intervalOf, between}
 use Rattle.division.proofs.Best.{outs}
 use Rattle.division.proofs.Intervals.{cut-outs, interval-mono, interval-below, Interval, interval-is}
 use Rattle.initial.specs.Initial.{placesIn, placesOf, roomy, partsOf, Good}
-use Rattle.initial.specs.Positions.{Placed, leavingOf}
+use Rattle.initial.specs.Positions.{Placed, leavingBy, leavingOf}
 
 module _ (G : Graph) (row : List ℕ) (F : Formed G) (R : RowOf G row (clusters row)) (small : clusters row ≤ 512) (acyclic : Acyclic (Edge (seen G row))) where
   inside : Inside (seen G row) (clusters row)
@@ -80,7 +80,7 @@ module _ (G : Graph) (F : Formed G) (g : ℕ) (places : List ℕ) (P : Placed G 
 
   -- the cut of the parts is what leaves the intervals
   pub parts-cut : (d : List ℕ) → Rising g 0 d → cutOf G (partsOf places d) ≡ outs (leavingOf G places) 0 d
-  unfolding cut crossing leavingOf
+  unfolding cut crossing leavingBy
   parts-cut d r =
       sumTo-ext (edges G) _ _ (λ j l. rw (parts-at d (getD (G .starts) j 0) (F .start-in j l), parts-at d (getD (G .ends) j 0) (F .end-in j l)))
       ∙ cut-outs (edges G) (via places (G .starts)) (via places (G .ends)) (λ j. getD (G .widths) j 0) (P .forward) g d r

@@ -2,8 +2,11 @@
 use Prim.Native.Nat.{ℕ, suc, _*_, _<_, _≤_}
 use mathlib.Core.Path.{_≡_}
 use mathlib.Core.List.{List}
-use lib.ListN.{length}
+use lib.ListN.{length, take}
 use Rattle.folds.specs.Fold.{over}
+use Rattle.graph.specs.Graph.{Graph, vertices, seen}
+use Rattle.graph.specs.Rows.{clusters, rowsIn}
+use Rattle.topology.specs.Order.{orderOf}
 use Rattle.division.specs.Division.{Pick, none, some}
 use Rattle.initial.specs.Initial.{Chosen, found, uncut}
 use Rattle.initial.specs.declared.Initial.{Initial}
@@ -42,3 +45,12 @@ pub record Lent (n k top : ℕ) (rows table : List ℕ) : Type 0 where
   pub few : top < 9
   pub long : suc top * n ≤ length rows
   pub room : n ≤ length table
+
+-- the front of `order` is the topological order of the row's clusters
+abbrev pub OrderOf : Graph → List ℕ → List ℕ → Type 0
+OrderOf G row order = take (clusters row) order ≡ orderOf (seen G row) (clusters row)
+
+-- the orders of the rows 0 to top, each from where its row starts
+pub record Ordered (G : Graph) (rows : ℕ → List ℕ) (top : ℕ) (orders : List ℕ) : Type 0 where
+  pub long : suc top * vertices G ≤ length orders
+  pub is : (r : ℕ) → r ≤ top → OrderOf G (rows r) (rowsIn orders (vertices G) r)

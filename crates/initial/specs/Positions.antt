@@ -3,14 +3,14 @@ use Prim.Native.Nat.{ℕ, _+_, _≤_, _<_}
 use mathlib.Core.Path.{_≡_}
 use mathlib.Core.Bool.{_&&_}
 use mathlib.Core.List.{List}
-use lib.Dec.{eqb}
+use lib.Dec.{eqb, leb}
 use lib.ListN.{length, getD}
 use Rattle.folds.specs.Fold.{when, sumTo}
 use Rattle.graph.specs.Walk.{Acyclic}
-use Rattle.graph.specs.Graph.{Graph, vertices, edges, via, seen, Edge, costIn, RowOf}
+use Rattle.graph.specs.Graph.{Graph, vertices, edges, via, seen, Edge, RowOf}
 use Rattle.graph.specs.Rows.{clusters}
-use Rattle.division.specs.Table.{Done}
-use Rattle.initial.specs.Initial.{roomy}
+use Rattle.graph.specs.Links.{Joins}
+use Rattle.division.specs.Table.{span, within, Done}
 use Rattle.division.proofs.Intervals.{leaving, outOf, intoFrom}
 
 -- positions: a row in which no position is empty and every edge goes forward
@@ -24,11 +24,6 @@ pub record Spots (n : ℕ) (places : List ℕ) : Type 0 where
   pub whole : length places ≡ n
   pub few : n ≤ 512
   pub low : (v : ℕ) → v < n → getD places v 0 < 512
-
--- the cost of what lies at each position, of the vertices below v
-pub record Weighed (costs places : List ℕ) (v : ℕ) (cost : List ℕ) : Type 0 where
-  pub tall : length cost ≡ 512
-  pub is : (x : ℕ) → getD cost x 0 ≡ sumTo v (costIn costs places x)
 
 -- what the edges that start at y add to what comes into x
 unfoldable pub fromTo : List ℕ → List ℕ → List ℕ → List ℕ → ℕ → ℕ → ℕ → ℕ
@@ -48,20 +43,51 @@ pub record Gathered (places starts ends widths : List ℕ) (y j : ℕ) (into int
   pub sums : sum ≡ sumTo j (startingAt places starts widths y)
   pub adds : (x : ℕ) → getD into′ x 0 ≡ getD into x 0 + sumTo j (fromTo places starts ends widths y x)
 
--- what leaves the interval of positions y to x - 1
-unfoldable pub leavingOf : Graph → List ℕ → ℕ → ℕ → ℕ
-leavingOf G places = leaving (edges G) (via places (G .starts)) (via places (G .ends)) (λ j. getD (G .widths) j 0)
+-- edges between positions below g, none backward
+pub record Positioned (places starts ends widths : List ℕ) (g : ℕ) : Type 0 where
+  pub joins : Joins places starts ends
+  pub same : length widths ≡ length starts
+  pub below : (j : ℕ) → j < length starts → via places starts j < g
+  pub forward : (j : ℕ) → j < length starts → via places starts j ≤ via places ends j
 
--- what leaves each position from y on, and what comes into each from y on
-pub record Flows (G : Graph) (places : List ℕ) (g y : ℕ) (away into : List ℕ) : Type 0 where
+-- what leaves the interval of positions y to x - 1; what leaves position x; what comes into x from y on
+unfoldable pub leavingBy : List ℕ → List ℕ → List ℕ → List ℕ → ℕ → ℕ → ℕ
+leavingBy places starts ends widths = leaving (length starts) (via places starts) (via places ends) (λ j. getD widths j 0)
+
+abbrev pub leavingOf : Graph → List ℕ → ℕ → ℕ → ℕ
+leavingOf G places = leavingBy places (G .starts) (G .ends) (G .widths)
+
+unfoldable pub awayBy : List ℕ → List ℕ → List ℕ → List ℕ → ℕ → ℕ
+awayBy places starts ends widths = outOf (length starts) (via places starts) (via places ends) (λ j. getD widths j 0)
+
+unfoldable pub enteringBy : List ℕ → List ℕ → List ℕ → List ℕ → ℕ → ℕ → ℕ
+enteringBy places starts ends widths = intoFrom (length starts) (via places starts) (via places ends) (λ j. getD widths j 0)
+
+-- r is the width of edge j if it starts at y or later
+pub record From (places starts widths : List ℕ) (y j r : ℕ) : Type 0 where
+  pub is : r ≡ when (leb y (via places starts j)) (getD widths j 0)
+  pub low : r < 65536
+
+-- what leaves each position from y on
+pub record Aways (places starts ends widths : List ℕ) (g y : ℕ) (away : List ℕ) : Type 0 where
   pub wide : length away ≡ 512
+  pub outs : (x : ℕ) → y ≤ x → x < g → getD away x 0 ≡ awayBy places starts ends widths x
+
+-- and what comes into each from y on
+pub record Flows (places starts ends widths : List ℕ) (g y : ℕ) (away into : List ℕ) : Type 0 where
+  pub aways : Aways places starts ends widths g y away
   pub deep : length into ≡ 512
-  pub outs : (x : ℕ) → y ≤ x → x < g → getD away x 0 ≡ outOf (edges G) (via places (G .starts)) (via places (G .ends)) (λ j. getD (G .widths) j 0) x
-  pub intos : (x : ℕ) → getD into x 0 ≡ intoFrom (edges G) (via places (G .starts)) (via places (G .ends)) (λ j. getD (G .widths) j 0) y x
+  pub intos : (x : ℕ) → getD into x 0 ≡ enteringBy places starts ends widths y x
+
+-- what lies at each position costs, all together no more than fits
+pub record Costs (cost : List ℕ) (g : ℕ) : Type 0 where
+  pub tall : length cost ≡ 512
+  pub light : span cost 0 g ≤ 33553920
 
 -- the least cuts are known from position y on
-abbrev pub Tabled : Graph → ℕ → List ℕ → ℕ → ℕ → ℕ → List ℕ → List ℕ → Type 0
-Tabled G bound places g n y cuts nexts = Done g (roomy G bound places) (leavingOf G places) n y cuts nexts
+pub record Tabled (places starts ends widths cost : List ℕ) (bound g y : ℕ) (away cuts : List ℕ) : Type 0 where
+  pub aways : Aways places starts ends widths g y away
+  pub done : Done g (within cost bound) (leavingBy places starts ends widths) y cuts
 
 -- one row of a hierarchy: no cluster is empty, and they form no cycle
 pub record Layer (G : Graph) (row : List ℕ) : Type 0 where
@@ -71,7 +97,7 @@ pub record Layer (G : Graph) (row : List ℕ) : Type 0 where
 
 -- the first g entries are below 512, each once
 pub record Once (g : ℕ) (order : List ℕ) : Type 0 where
-  pub tall : length order ≡ 512
+  pub long : g ≤ length order
   pub low : (i : ℕ) → i < g → getD order i 0 < 512
   pub once : (i j : ℕ) → i < g → j < g → getD order i 0 ≡ getD order j 0 → i ≡ j
 

@@ -14,9 +14,9 @@ use Rattle.folds.proofs.Cases.{by, either, eq-or-ne}
 use Rattle.folds.proofs.Lists.{getD-past, getD-zeros, length-zeros}
 use Rattle.folds.proofs.Slices.{length-over}
 use Rattle.graph.specs.Graph.{Arcs, Edge}
-use Rattle.graph.specs.Links.{Linked}
+use Rattle.graph.specs.Links.{Linked, leave}
 use Rattle.graph.proofs.Edges.{arc-edge, edge-arc, edge-other, edge-inside}
-use Rattle.graph.proofs.Links.{On}
+use Rattle.graph.proofs.Links.{On, leave-at, leave-from}
 use Rattle.topology.specs.Order.{orderOf, placeIn}
 use Rattle.topology.specs.Level.{levelsOf, level}
 use Rattle.topology.proofs.Levels.{length-levels, level-rises, level-from, level-low}
@@ -53,8 +53,8 @@ pub record Swept (A : Arcs) (g i : ℕ) (levels : List ℕ) : Type 0 where
   pub counts : (a b : ℕ) → Edge A a b → placeIn (orderOf A g) a < i → level A g a < getD levels b 0
 
 module _ (A : Arcs) (g : ℕ) (Y : Layered A g) where
-  pub raised-none : {m u : ℕ} {head next levels : List ℕ} → Linked (A .from) m head next → u < 512 → Under A g levels → Raised A g u (getD head u 0) levels levels
-  raised-none L l U = record { under = U; keeps = λ v. omega arith; counts = λ i h e n. absurd (L .heads _ l .skips i (omega arith) h e) }
+  pub raised-none : {m u : ℕ} {head next levels : List ℕ} → Linked (leave A) m head next → u < 512 → Under A g levels → Raised A g u (getD head u 0) levels levels
+  raised-none L l U = record { under = U; keeps = λ v. omega arith; counts = λ i h e n. absurd (L .heads _ l .skips i (omega arith) h (leave-at A i e n)) }
 
   -- what one store does
   raised-is : (levels : List ℕ) (u b x v : ℕ) → b < length levels
@@ -84,16 +84,19 @@ module _ (A : Arcs) (g : ℕ) (Y : Layered A g) where
       go false true = length-set levels b x
       go false false = refl
 
-  pub raised-turn : {m u j b x : ℕ} {head next levels₀ levels : List ℕ} → Linked (A .from) m head next → m ≡ A .count → On (A .from) m u j → j < m
+  pub raised-turn : {m u j b x : ℕ} {head next levels₀ levels : List ℕ} → Linked (leave A) m head next → m ≡ A .count → On (leave A) m u j → j < m → u < 512
       → b ≡ A .to j → b < 512 → x ≡ level A g u + 1 → Raised A g u j levels₀ levels
       → Raised A g u (getD next j 0) levels₀ (raisedOf levels u b x)
-  raised-turn {m} {u} {j} {b} {x} {head} {next} {levels₀} {levels} L em o l eb lb ex R =
+  raised-turn {m} {u} {j} {b} {x} {head} {next} {levels₀} {levels} L em o l lu eb lb ex R =
       record {
         under = record { tall = length-raised levels u b x ∙ R .under .tall; most = most };
         keeps = λ v. either (raised-is levels u b x v room) (λ q. omega (arith, R .keeps v)) (λ (ev, n, h, q). omega (arith, R .keeps v, ap (λ (z : ℕ). getD levels z 0) ev));
         counts = counts;
       }
     where
+      near : A .from j ≡ u
+      near = leave-from A j (o .at l) lu
+
       room : b < length levels
       room = omega (arith, R .under .tall)
 
@@ -101,7 +104,7 @@ module _ (A : Arcs) (g : ℕ) (Y : Layered A g) where
       most v =
           either (raised-is levels u b x v room) (λ q. omega (arith, R .under .most v))
           (λ (ev, n, h, q).
-          let t : Edge A u v = rw (o .at l, sym eb ∙ sym ev) at (arc-edge A j (omega arith) (λ z. n (eb ∙ sym z ∙ o .at l))) in
+          let t : Edge A u v = rw (near, sym eb ∙ sym ev) at (arc-edge A j (omega arith) (λ z. n (eb ∙ sym z ∙ near))) in
           omega (arith, level-rises A g (Y .inside) (Y .acyclic) u v t))
 
       counts : (i : ℕ) → i < getD next j 0 → A .from i ≡ u → (A .to i ≡ u → ⊥) → level A g u < getD (raisedOf levels u b x) (A .to i) 0
@@ -112,7 +115,7 @@ module _ (A : Arcs) (g : ℕ) (Y : Layered A g) where
             (λ q.
             let to : A .to i ≡ b = ap (A .to) q ∙ sym eb in
             rw to (omega (arith, raised-at levels u b x room (λ z. n (to ∙ z)))))
-            (λ q. absurd (L .nexts j l .skips i (omega (arith, ltb-false i j t)) h (e ∙ sym (o .at l)))))
+            (λ q. absurd (L .nexts j l .skips i (omega (arith, ltb-false i j t)) h (leave-at A i e n ∙ sym (o .at l)))))
 
   all : length (orderOf A g) ≡ g
   all = order-all A g (Y .inside) (Y .small) (Y .acyclic)

@@ -18,7 +18,7 @@ pub record Layered (A : Arcs) (g : ℕ) : Type 0 where
 
 -- the front of `order` holds the clusters in topological order
 pub record Ordered (A : Arcs) (g : ℕ) (order : List ℕ) : Type 0 where
-  pub tall : length order ≡ 512
+  pub long : g ≤ length order
   pub is : (i : ℕ) → i < g → getD order i 0 ≡ getD (orderOf A g) i 0
 
 -- b's entry raised to x where it is lower, unless b is u

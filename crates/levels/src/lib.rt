@@ -3,8 +3,8 @@ ghost use mathlib.Core.Path.{_≡_};
 ghost use Prim.Native.Nat.{ℕ, _+_, _<_, _≤_};
 ghost use lib.ListN.{length, getD};
 ghost use Rattle.folds.specs.Fold.{over, zeros};
-ghost use Rattle.graph.specs.Graph.{via, arcs};
-ghost use Rattle.graph.specs.Links.{Linked, Joins};
+ghost use Rattle.graph.specs.Graph.{arcs};
+ghost use Rattle.graph.specs.Links.{Linked, Joins, leave};
 ghost use Rattle.topology.specs.Level.{level, levelsOf};
 ghost use Rattle.levels.specs.Sweep.{Layered, Ordered, raisedOf, Under, Raised};
 
@@ -22,9 +22,9 @@ fn lift(levels: &mut [u16; 512], u: usize, b: usize, x: u16)
 }
 
 // Raises what the edges of u go to above the level of u.
-fn raise(row: &[u16], starts: &[u16], ends: &[u16], head: &[u16; 512], next: &[u16; 1024], g: usize, u: usize, levels: &mut [u16; 512])
+fn raise(row: &[u16], starts: &[u16], ends: &[u16], head: &[u16; 513], next: &[u16; 1024], g: usize, u: usize, levels: &mut [u16; 512])
     requires { ⌜ Joins (now row) (now starts) (now ends) ⌝ }
-    requires { ⌜ Linked (via (now row) (now starts)) (length (now starts)) (now head) (now next) ⌝ }
+    requires { ⌜ Linked (leave (arcs (now row) (now starts) (now ends))) (length (now starts)) (now head) (now next) ⌝ }
     requires { ⌜ (u < g) × Layered (arcs (now row) (now starts) (now ends)) g ⌝ }
     requires { ⌜ Under (arcs (now row) (now starts) (now ends)) g (now levels) × (getD (now levels) u 0 ≡ level (arcs (now row) (now starts) (now ends)) g u) ⌝ }
     ensures { λ _. ⌜ Raised (arcs (now (row .entry)) (now (starts .entry)) (now (ends .entry))) g u (length (now (starts .entry))) (now (levels .entry)) (now (levels .exit)) ⌝ }
@@ -40,20 +40,18 @@ fn raise(row: &[u16], starts: &[u16], ends: &[u16], head: &[u16; 512], next: &[u
 }
 
 // The levels of the g clusters of a row, from their topological order.
-pub fn sweep(row: &[u16], starts: &[u16], ends: &[u16], order: &[u16; 512], g: usize, levels: &mut [u16; 512])
+pub fn sweep(row: &[u16], starts: &[u16], ends: &[u16], head: &[u16; 513], next: &[u16; 1024], order: &[u16], g: usize, levels: &mut [u16; 512])
     requires { ⌜ Joins (now row) (now starts) (now ends) ⌝ }
+    requires { ⌜ Linked (leave (arcs (now row) (now starts) (now ends))) (length (now starts)) (now head) (now next) ⌝ }
     requires { ⌜ Layered (arcs (now row) (now starts) (now ends)) g ⌝ }
     requires { ⌜ Ordered (arcs (now row) (now starts) (now ends)) g (now order) ⌝ }
     ensures { λ _. ⌜ now (levels .exit) ≡ over (levelsOf (arcs (now (row .entry)) (now (starts .entry)) (now (ends .entry))) g) (zeros 512) ⌝ }
 {
-    let mut head = [0u16; 512];
-    let mut next = [0u16; 1024];
-    graph::fill(row, starts, &mut head, &mut next);
     *levels = [0; 512];
     let mut i: usize = 0;
     while i < g {
-        let u = folds::wide(order[i]);
-        raise(row, starts, ends, &head, &next, g, u, levels);
+        let u = folds::at16(order, i);
+        raise(row, starts, ends, head, next, g, u, levels);
         i += 1;
     }
 }

@@ -21,7 +21,8 @@ use Rattle.contraction.specs.Next.{mateOf}
 use Rattle.contraction.proofs.Tests.{all-of-e, keeps-more, tested-keeps}
 use Rattle.contraction.proofs.Mates.{Is, alone, first, second, mate-is}
 use Rattle.contraction.proofs.Join.{flat-or-only}
-use Rattle.offers.specs.State.{sent, leaves}
+use Rattle.graph.specs.Coarse.{sent}
+use Rattle.offers.specs.State.{leaves}
 use Rattle.matching.specs.Held.{anyOf}
 
 -- some pair passes, at an index

@@ -11,16 +11,14 @@ use lib.Seq.{getD-set-same, getD-set-other, take-suc}
 use borrow.Author.Tests.{eq-eqb, ne-eqb}
 use Rattle.folds.specs.Fold.{when, listTo, zeros}
 use Rattle.folds.proofs.Cases.{no-bool, by, either, eq-or-ne, both}
-use Rattle.folds.proofs.Sums.{sumTo-none}
 use Rattle.folds.proofs.Lists.{getD-listTo, getD-zeros}
-use Rattle.graph.specs.Graph.{Graph, via, Arcs, edge, Edge, partCost, costIn}
+use Rattle.graph.specs.Graph.{Graph, Arcs, edge, Edge}
 use Rattle.graph.proofs.Edges.{edge-arc, edge-other}
 use Rattle.contraction.specs.Rules.{pair, Round}
 use Rattle.contraction.specs.Tests.{allOf}
 use Rattle.contraction.specs.Next.{mateOf}
 use Rattle.matching.specs.Choice.{visit, visits}
-use Rattle.graph.specs.Links.{Joins}
-use Rattle.offers.specs.State.{Weighed, nextIn, sent, offerIn, offerOf, Widths, Sparse, Blocking}
+use Rattle.offers.specs.State.{nextIn, Blocking}
 use Rattle.matching.specs.Held.{anyOf, Holds, Tall}
 use Rattle.matching.proofs.Fits.{any-of-cons}
 
@@ -59,22 +57,6 @@ module _ (A : Arcs) (levels mates tos blocked blocked′ : List ℕ) (ps : Round
   pub holds-pair : Holds A levels (pair u v ∷ ps) (set (set mates u v) v u) (set tos v 1) blocked′
   holds-pair = record { mates-are = mates-pair; tos-are = tos-pair; blocked-are = blocked-pair }
 
--- widths that were added lie where an edge goes
-pub widths-sparse : {A : Arcs} {widths sums : List ℕ} {u total : ℕ} → Widths A widths u (A .count) sums total → Sparse A u 0 sums
-unfolding sent
-widths-sparse {A} {widths} {sums} {u} W =
-    record {
-      tall = W .tall;
-      zero-at = λ b l n. W .is b l ∙ sumTo-none (A .count) (sent A widths u b) (λ j lj.
-        either (eq-or-ne (A .from j) u)
-        (λ e. either (eq-or-ne (A .to j) b) (λ q. absurd (n j (omega arith) lj e q)) (λ q. rw (eq-eqb (A .from j) u e, ne-eqb (A .to j) b q)))
-        (λ e. rw (ne-eqb (A .from j) u e)));
-    }
-
-pub weighed-cost : {costs row sums : List ℕ} → length costs ≡ length row → Weighed costs row (length row) sums → (c : ℕ) → c < 512 → getD sums c 0 ≡ partCost costs row c
-unfolding partCost costIn
-weighed-cost e W c l = rw e (W .is c l)
-
 visits-snoc : (G : Graph) (row levels : List ℕ) (g bound u : ℕ) (ps : Round) (xs : List ℕ)
     → visits G row levels g bound ps (xs ++ (u ∷ [])) ≡ visit G row levels g bound (visits G row levels g bound ps xs) u
 unfolding visits
@@ -85,12 +67,3 @@ visits-snoc G row levels g bound u ps (x ∷ xs) = visits-snoc G row levels g bo
 pub visits-more : (G : Graph) (row levels : List ℕ) (g bound : ℕ) (ps : Round) (us : List ℕ) (i : ℕ) → i < length us
     → visits G row levels g bound ps (take (i + 1) us) ≡ visit G row levels g bound (visits G row levels g bound ps (take i us)) (getD us i 0)
 visits-more G row levels g bound ps us i l = rw (add-one, take-suc us i 0 l) (visits-snoc G row levels g bound (getD us i 0) ps (take i us))
-
--- the offers by the sums in the array are those by the widths
-pub offers-same : {A : Arcs} {widths sums : List ℕ} (levels mates blocked costs : List ℕ) (bound : ℕ) {u total : ℕ} → Widths A widths u (A .count) sums total
-    → (b : ℕ) → b < 512 → offerIn levels mates blocked costs bound u b (getD sums b 0) total ≡ offerOf A widths levels mates blocked costs bound u b
-unfolding offerOf
-offers-same levels mates blocked costs bound W b l = rw (W .is b l, W .all)
-
-pub to-small : {row starts ends : List ℕ} → Joins row starts ends → (i : ℕ) → i < length starts → via row ends i < 512
-to-small J i l = let h = J .into .in-row i (omega (arith, J .same)) in J .into .low _ h

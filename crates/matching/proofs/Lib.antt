@@ -3,3 +3,4 @@ pub mod Fits
 pub mod Visits
 pub mod Holding
 pub mod Steps
+pub mod Lists

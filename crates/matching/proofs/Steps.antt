@@ -4,13 +4,14 @@ use mathlib.Core.Path.{_≡_, refl, sym, ap, _∙_}
 use mathlib.Core.Bool.{Bool, true, false}
 use mathlib.Core.List.{List, []}
 use native.Mathlib.Omega.{arith}
-use lib.ListN.{length, getD, set, take, length-set, List·getD-append}
-use lib.Seq.{take-all}
+use lib.Dec.{ltb}
+use lib.ListN.{length, getD, set, take, length-set}
+use lib.Seq.{take-all, length-take-le, getD-take}
+use borrow.Author.Tests.{ltb-true, ltb-false}
 use Rattle.folds.specs.Fold.{anyTo, listTo, over, zeros}
-use Rattle.folds.proofs.Cases.{either}
-use Rattle.folds.proofs.Lists.{listed, length-listTo, length-zeros}
-use Rattle.folds.proofs.Slices.{length-over}
-use Rattle.graph.specs.Graph.{Graph, graphOf, Arcs, arcs, seen, Inside}
+use Rattle.folds.proofs.Cases.{by, either}
+use Rattle.folds.proofs.Lists.{listed, length-listTo, length-zeros, getD-past}
+use Rattle.graph.specs.Graph.{Graph, graphOf, Arcs, arcs, seen, Inside, identity, partCost}
 use Rattle.graph.specs.Links.{Joins}
 use Rattle.graph.specs.Rows.{clusters}
 use Rattle.graph.proofs.Edges.{row-inside}
@@ -21,17 +22,18 @@ use Rattle.levels.specs.Sweep.{Layered, Ordered}
 use Rattle.levels.proofs.Sweeps.{over-level}
 use Rattle.contraction.specs.Rules.{Round, Keeps}
 use Rattle.contraction.specs.Next.{mateOf}
-use Rattle.offers.specs.State.{Weighed, haltsAt, offerOf, Widest}
+use Rattle.offers.specs.State.{haltsAt, offerOf, Widest}
 use Rattle.matching.specs.Choice.{visit, visits, roundOf}
-use Rattle.matching.specs.Held.{Ready, Holds, Tall, Context, Paired, Stepped, Matched}
+use Rattle.matching.specs.Held.{Ready, Weights, Holds, Tall, Context, Paired, Stepped, Matched}
 use Rattle.matching.proofs.Choices.{Kept, none-kept, visit-kept}
 use Rattle.matching.proofs.Visits.{visit-mated, visit-stopped, visit-keeps, visit-takes}
-use Rattle.matching.proofs.Holding.{holds-none, holds-pair, visits-more, weighed-cost}
+use Rattle.matching.proofs.Holding.{holds-none, holds-pair, visits-more}
+use Rattle.matching.proofs.Lists.{cost-identity}
 
 pub widest-low : {A : Arcs} {f : ℕ → ℕ} {u j width to : ℕ} → Widest A f u j width to → (width ≡ 0 → ⊥) → to < 512
 widest-low W n = either (W .hit) (λ e. absurd (n e)) (λ h. h .1)
 
-module _ (row starts ends widths levels costs mates tos blocked sums : List ℕ) (bound u : ℕ) (lu : u < 512) (T : Tall mates tos blocked) (z : sums ≡ zeros 512) where
+module _ (row starts ends widths levels costs mates tos blocked : List ℕ) (bound u : ℕ) (lu : u < 512) (T : Tall mates tos blocked) where
   abbrev A : Arcs
   A = arcs row starts ends
 
@@ -40,33 +42,31 @@ module _ (row starts ends widths levels costs mates tos blocked sums : List ℕ)
   Stays = (vs : List ℕ) (g : ℕ) → Context (graphOf vs starts ends widths) row g levels costs → (ps : Round) → Keeps A g ps → Holds A levels ps mates tos blocked
       → visit (graphOf vs starts ends widths) row (levelsOf A g) g bound ps u ≡ ps
 
-  stays : Stays → Stepped row starts ends widths levels costs bound u mates tos blocked mates tos blocked sums 0
+  stays : Stays → Stepped row starts ends widths levels costs bound u mates tos blocked mates tos blocked 0
   stays h =
       record {
         tall = T;
-        clean = z;
         few = omega arith;
         is = λ vs g C ps K H. let e = h vs g C ps K H in record { holds = rw e H; counts = rw e (omega arith) };
       }
 
-  pub stepped-mated : {x : ℕ} → x ≡ getD mates u 0 → (x ≡ u → ⊥) → Stepped row starts ends widths levels costs bound u mates tos blocked mates tos blocked sums 0
+  pub stepped-mated : {x : ℕ} → x ≡ getD mates u 0 → (x ≡ u → ⊥) → Stepped row starts ends widths levels costs bound u mates tos blocked mates tos blocked 0
   stepped-mated e n = stays (λ vs g C ps K H. visit-mated (graphOf vs starts ends widths) row g bound levels costs mates tos blocked C ps K H u lu e n)
 
-  pub stepped-stopped : {r : Bool} → r ≡ anyTo (length starts) (haltsAt A levels tos u) → r ≡ true → Stepped row starts ends widths levels costs bound u mates tos blocked mates tos blocked sums 0
+  pub stepped-stopped : {r : Bool} → r ≡ anyTo (length starts) (haltsAt A levels tos u) → r ≡ true → Stepped row starts ends widths levels costs bound u mates tos blocked mates tos blocked 0
   stepped-stopped e t = stays (λ vs g C ps K H. visit-stopped (graphOf vs starts ends widths) row g bound levels costs mates tos blocked C ps K H u lu e t)
 
   module _ {x : ℕ} (ex : x ≡ getD mates u 0) (single : x ≡ u) {r : Bool} (er : r ≡ anyTo (length starts) (haltsAt A levels tos u)) (goes : r ≡ false)
       {width to : ℕ} (W : Widest A (offerOf A widths levels mates blocked costs bound u) u (length starts) width to) where
-    pub stepped-none : width ≡ 0 → Stepped row starts ends widths levels costs bound u mates tos blocked mates tos blocked sums 0
+    pub stepped-none : width ≡ 0 → Stepped row starts ends widths levels costs bound u mates tos blocked mates tos blocked 0
     stepped-none e = stays (λ vs g C ps K H. visit-keeps (graphOf vs starts ends widths) row g bound levels costs mates tos blocked C ps K H u lu ex single er goes W e)
 
     pub stepped-pair : {mates′ tos′ blocked′ : List ℕ} → (width ≡ 0 → ⊥) → Paired A levels u to mates tos blocked mates′ tos′ blocked′
-        → Stepped row starts ends widths levels costs bound u mates tos blocked mates′ tos′ blocked′ sums 1
+        → Stepped row starts ends widths levels costs bound u mates tos blocked mates′ tos′ blocked′ 1
     stepped-pair {blocked′ = blocked′} n P =
         record {
           tall = rw (P .mates-are, P .tos-are) tall;
-          clean = z;
-          few = omega arith;
+            few = omega arith;
           is = λ vs g C ps K H.
             let (e, t) = visit-takes (graphOf vs starts ends widths) row g bound levels costs mates tos blocked C ps K H u lu ex single er goes W n in
             record {
@@ -109,9 +109,8 @@ unfolding roundOf
 round-at G bound row g e = rw e
 
 -- the first i clusters of the order are visited
-pub record Rounding (G : Graph) (row levels : List ℕ) (g bound i : ℕ) (mates tos blocked sums : List ℕ) (count : ℕ) : Type 0 where
+pub record Rounding (G : Graph) (row levels : List ℕ) (g bound i : ℕ) (mates tos blocked : List ℕ) (count : ℕ) : Type 0 where
   pub tall : Tall mates tos blocked
-  pub clean : sums ≡ zeros 512
   pub few : count ≤ i
   pub keeps : Kept G row g bound (visits G row (levelsOf (seen G row) g) g bound [] (take i (orderOf (seen G row) g)))
   pub holds : Holds (seen G row) levels (visits G row (levelsOf (seen G row) g) g bound [] (take i (orderOf (seen G row) g))) mates tos blocked
@@ -124,13 +123,12 @@ module _ (G : Graph) (row levels costs : List ℕ) (g bound : ℕ) (C : Context 
   all : length (orderOf (seen G row) g) ≡ g
   all = order-all (seen G row) g inside (C .ready .small) (C .ready .acyclic)
 
-  pub rounding-none : {mates : List ℕ} → mates ≡ listTo 512 (λ c. c) → Rounding G row levels g bound 0 mates (zeros 512) (zeros 512) (zeros 512) 0
+  pub rounding-none : {mates : List ℕ} → mates ≡ listTo 512 (λ c. c) → Rounding G row levels g bound 0 mates (zeros 512) (zeros 512) 0
   unfolding visits
   rounding-none {mates} e =
       rw e
       (record {
         tall = record { mates-tall = length-listTo 512 (λ c. c); tos-tall = length-zeros 512; blocked-tall = length-zeros 512 };
-        clean = refl;
         few = omega arith;
         keeps = none-kept G row g bound inside;
         holds = holds-none (seen G row) levels;
@@ -140,10 +138,10 @@ module _ (G : Graph) (row levels costs : List ℕ) (g bound : ℕ) (C : Context 
   pub order-low : {i u : ℕ} {order : List ℕ} → Ordered (seen G row) g order → i < g → u ≡ getD order i 0 → u < 512
   order-low {i} O l e = let h = order-below (seen G row) g inside (C .ready .small) i (omega (arith, all)) in omega (arith, O .is i l, C .ready .small)
 
-  pub rounding-turn : {i u r count : ℕ} {order mates tos blocked sums mates′ tos′ blocked′ sums′ : List ℕ} → Ordered (seen G row) g order → i < g → u ≡ getD order i 0
-      → Rounding G row levels g bound i mates tos blocked sums count
-      → Stepped row (G .starts) (G .ends) (G .widths) levels costs bound u mates tos blocked mates′ tos′ blocked′ sums′ r
-      → Rounding G row levels g bound (i + 1) mates′ tos′ blocked′ sums′ (count + r)
+  pub rounding-turn : {i u r count : ℕ} {order mates tos blocked mates′ tos′ blocked′ : List ℕ} → Ordered (seen G row) g order → i < g → u ≡ getD order i 0
+      → Rounding G row levels g bound i mates tos blocked count
+      → Stepped row (G .starts) (G .ends) (G .widths) levels costs bound u mates tos blocked mates′ tos′ blocked′ r
+      → Rounding G row levels g bound (i + 1) mates′ tos′ blocked′ (count + r)
   rounding-turn {i} {u} {r} {count} O l e N S =
       let L = levelsOf (seen G row) g in
       let ps = visits G row L g bound [] (take i (orderOf (seen G row) g)) in
@@ -152,14 +150,13 @@ module _ (G : Graph) (row levels costs : List ℕ) (g bound : ℕ) (C : Context 
       let W = S .is (G .costs) g C ps (N .keeps .0) (N .holds) in
       record {
         tall = S .tall;
-        clean = S .clean;
         few = omega (arith, N .few, S .few);
         keeps = rw q (visit-kept G row g bound inside ps u (N .keeps));
         holds = rw q (W .holds);
         counts = rw q (omega (arith, N .counts, W .counts));
       }
 
-  pub rounding-end : {i count : ℕ} {mates tos blocked sums : List ℕ} → i ≤ g → g ≤ i → Rounding G row levels g bound i mates tos blocked sums count → Matched G bound row mates count
+  pub rounding-end : {i count : ℕ} {mates tos blocked : List ℕ} → i ≤ g → g ≤ i → Rounding G row levels g bound i mates tos blocked count → Matched G bound row mates count
   rounding-end {i} {count} {mates} l h N =
       let full : take i (orderOf (seen G row) g) ≡ orderOf (seen G row) g = take-all i (orderOf (seen G row) g) (omega (arith, all)) in
       let H = rw full at (N .holds) in
@@ -171,29 +168,18 @@ module _ (G : Graph) (row levels costs : List ℕ) (g bound : ℕ) (C : Context 
       }
 
 -- the arrays that the round has made
-module _ {costs row starts ends widths : List ℕ} {g : ℕ} (R : Ready (graphOf costs starts ends widths) row g) where
-  pub round-context : {levels weights : List ℕ} → levels ≡ over (levelsOf (arcs row starts ends) g) (zeros 512) → Weighed costs row (length row) weights → Context (graphOf costs starts ends widths) row g levels weights
-  round-context e W =
+module _ {weights row starts ends widths : List ℕ} {g : ℕ} (R : Ready (graphOf (take g weights) starts ends widths) row g) (W : Weights g weights) (e : row ≡ identity g) where
+  costs-are : (c : ℕ) → getD weights c 0 ≡ partCost (take g weights) row c
+  costs-are c =
+      let n : length (take g weights) ≡ g = length-take-le g weights (omega (arith, W .tall, R .small)) in
+      by (ltb c g) (λ t. sym (getD-take g weights c 0 (ltb-true c g t))) (λ t. W .past c (ltb-false c g t) ∙ sym (getD-past (take g weights) c (omega (arith, ltb-false c g t))))
+      ∙ sym (cost-identity (take g weights) c)
+      ∙ ap (λ (l : List ℕ). partCost (take g weights) l c) (ap identity n ∙ sym e)
+
+  pub round-context : {levels : List ℕ} → levels ≡ over (levelsOf (arcs row starts ends) g) (zeros 512) → Context (graphOf (take g weights) starts ends widths) row g levels weights
+  round-context q =
       record {
         ready = R;
-        levels-are = λ v. ap (λ (l : List ℕ). getD l v 0) e ∙ over-level (arcs row starts ends) g v;
-        costs-are = weighed-cost (sym (R .row-of .whole)) W;
+        levels-are = λ v. ap (λ (l : List ℕ). getD l v 0) q ∙ over-level (arcs row starts ends) g v;
+        costs-are = λ c _. costs-are c;
       }
-
-  pub weights-low : {weights : List ℕ} → Weighed costs row (length row) weights → (c : ℕ) → getD weights c 0 ≤ 33553920
-  weights-low W c = omega (arith, W .low c, R .row-of .whole, R .proper .few)
-
-  pub ready-weigh : ((length costs ≡ length row) × (length row ≤ 512)) × ((v : ℕ) → v < length row → getD row v 0 < 512)
-  ready-weigh = ((sym (R .row-of .whole), omega (arith, R .row-of .whole, R .proper .few)), ready-joins R .out .low)
-
-  -- the order, as the callee leaves it in the front of an array
-  pub round-ordered : {order : List ℕ} → order ≡ over (orderOf (arcs row starts ends) g) (zeros 512) → Ordered (arcs row starts ends) g order
-  unfolding over
-  round-ordered {order} e =
-      record {
-        tall = ap length e ∙ length-over (orderOf (arcs row starts ends) g) (zeros 512) (rw (full, length-zeros 512) (R .small)) ∙ length-zeros 512;
-        is = λ i l. ap (λ (o : List ℕ). getD o i 0) e ∙ List·getD-append (orderOf (arcs row starts ends) g) _ 0 i (rw full l);
-      }
-    where
-      full : length (orderOf (arcs row starts ends) g) ≡ g
-      full = order-all (arcs row starts ends) g (row-inside (R .proper .formed) (R .row-of)) (R .small) (R .acyclic)

@@ -14,13 +14,15 @@ use Rattle.folds.proofs.Sums.{sumTo-none}
 use Rattle.folds.proofs.Searches.{max-le, max-ge, firstTo-all, firstTo-found, any-e, any-none}
 use Rattle.folds.proofs.Lists.{getD-listTo}
 use Rattle.graph.specs.Graph.{Graph, Arcs, seen, edge, Edge, widthOf, partCost, Inside}
+use Rattle.graph.proofs.Links.{leave-at}
 use Rattle.graph.proofs.Edges.{arc-edge, edge-arc, edge-other, edge-inside, row-inside}
 use Rattle.topology.specs.Level.{levelsOf}
 use Rattle.contraction.specs.Rules.{pair, Round, pairAt, Next, Keeps}
 use Rattle.contraction.specs.Tests.{fits}
 use Rattle.contraction.specs.Next.{mateOf}
 use Rattle.matching.specs.Choice.{mayTake, offer, widest, taken, visit}
-use Rattle.offers.specs.State.{sent, leaves, nextIn, halts, haltsAt, offerIn, offerOf, Widest}
+use Rattle.graph.specs.Coarse.{sent}
+use Rattle.offers.specs.State.{leaves, nextIn, halts, haltsAt, offerIn, offerOf, Widest}
 use Rattle.matching.specs.Held.{anyOf, Holds, Context}
 use Rattle.matching.proofs.Fits.{any-of-e, any-of-none, sent-width, all-only, only-all, Free, fits-free, free-fits}
 
@@ -259,7 +261,7 @@ module _ (G : Graph) (row : List ℕ) (g bound : ℕ) (levels costs mates tos bl
           (λ n.
           let t = offer-edge v n in
           let (j, lj, eu, ev) = edge-arc A u v t in
-          let h : offerOf A (G .widths) levels mates blocked costs bound u v ≤ width = rw ev at (W .top j lj eu) in
+          let h : offerOf A (G .widths) levels mates blocked costs bound u v ≤ width = rw ev at (W .top j lj (leave-at A j eu (λ q. edge-other A u v t (sym (sym ev ∙ q))))) in
           omega (arith, offer-is v t))
 
       pub visit-keeps : width ≡ 0 → visit G row L g bound ps u ≡ ps
@@ -275,4 +277,4 @@ module _ (G : Graph) (row : List ℕ) (g bound : ℕ) (levels costs mates tos bl
               (λ v lv q.
               let s = offer-edge v (λ z. n (sym q ∙ z)) in
               let (j, lj, eu, ev) = edge-arc A u v s in
-              either (W .low j lj eu (rw ev (sym (offer-is v s) ∙ q))) n (λ h. omega arith)), t)
+              either (W .low j lj (leave-at A j eu (λ q. edge-other A u v s (sym (sym ev ∙ q)))) (rw ev (sym (offer-is v s) ∙ q))) n (λ h. omega arith)), t)

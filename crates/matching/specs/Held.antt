@@ -5,14 +5,14 @@ use mathlib.Core.Bool.{Bool, not, _&&_}
 use mathlib.Core.List.{List}
 use lib.Dec.{eqb}
 use lib.ListN.{length, getD, set}
-use Rattle.folds.specs.Fold.{when, listTo, zeros}
+use Rattle.folds.specs.Fold.{when, listTo}
 use Rattle.graph.specs.Walk.{Acyclic}
 use Rattle.graph.specs.Graph.{Graph, graphOf, Arcs, arcs, seen, edge, Edge, RowOf, Proper, partCost}
 use Rattle.graph.specs.Rows.{clusters}
 use Rattle.contraction.specs.Rules.{Pair, Round, Keeps}
 use Rattle.contraction.specs.Tests.{allOf}
 use Rattle.contraction.specs.Next.{mateOf}
-use Rattle.offers.specs.State.{nextIn, offerOf, Widest, Blocking}
+use Rattle.offers.specs.State.{nextIn, Blocking}
 use Rattle.topology.specs.Level.{levelsOf, level}
 use Rattle.matching.specs.Choice.{visit, roundOf}
 
@@ -23,6 +23,12 @@ pub record Ready (G : Graph) (row : List ℕ) (g : ℕ) : Type 0 where
   pub acyclic : Acyclic (Edge (seen G row))
   pub count : g ≡ clusters row
   pub small : g ≤ 512
+
+-- the costs of g clusters in an array of 512
+pub record Weights (g : ℕ) (weights : List ℕ) : Type 0 where
+  pub tall : length weights ≡ 512
+  pub past : (c : ℕ) → g ≤ c → getD weights c 0 ≡ 0
+  pub light : (c : ℕ) → getD weights c 0 ≤ 33553920
 
 -- some pair passes
 unfoldable pub anyOf : (Pair → Bool) → Round → Bool
@@ -47,11 +53,6 @@ pub record Context (G : Graph) (row : List ℕ) (g : ℕ) (levels costs : List �
   pub levels-are : (v : ℕ) → getD levels v 0 ≡ level (seen G row) g v
   pub costs-are : (c : ℕ) → c < 512 → getD costs c 0 ≡ partCost (G .costs) row c
 
--- the widest offer to u, and the sums are 0 again
-pub record Chosen (A : Arcs) (widths levels mates blocked costs : List ℕ) (bound u : ℕ) (sums : List ℕ) (width to : ℕ) : Type 0 where
-  pub widest : Widest A (offerOf A widths levels mates blocked costs bound u) u (A .count) width to
-  pub clean : sums ≡ zeros 512
-
 -- u and v are a pair in the arrays
 pub record Paired (A : Arcs) (levels : List ℕ) (u v : ℕ) (mates tos blocked mates′ tos′ blocked′ : List ℕ) : Type 0 where
   pub mates-are : mates′ ≡ set (set mates u v) v u
@@ -64,9 +65,8 @@ pub record Visited (G : Graph) (row levels : List ℕ) (g bound : ℕ) (ps : Rou
   pub counts : length (visit G row (levelsOf (seen G row) g) g bound ps u) ≡ length ps + r
 
 -- one visit, whatever pairs the arrays hold
-pub record Stepped (row starts ends widths levels costs : List ℕ) (bound u : ℕ) (mates tos blocked mates′ tos′ blocked′ sums′ : List ℕ) (r : ℕ) : Type 0 where
+pub record Stepped (row starts ends widths levels costs : List ℕ) (bound u : ℕ) (mates tos blocked mates′ tos′ blocked′ : List ℕ) (r : ℕ) : Type 0 where
   pub tall : Tall mates′ tos′ blocked′
-  pub clean : sums′ ≡ zeros 512
   pub few : r ≤ 1
   pub is : (vs : List ℕ) (g : ℕ) → Context (graphOf vs starts ends widths) row g levels costs → (ps : Round) → Keeps (arcs row starts ends) g ps
       → Holds (arcs row starts ends) levels ps mates tos blocked → Visited (graphOf vs starts ends widths) row levels g bound ps u mates′ tos′ blocked′ r

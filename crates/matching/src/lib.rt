@@ -1,32 +1,30 @@
 // One round's choice of pairs: clusters in topological order, each takes the widest successor that the rules and the bound allow.
 ghost use mathlib.Core.Path.{_≡_};
 ghost use Prim.Native.Nat.{ℕ, _+_, _<_, _≤_};
-ghost use lib.ListN.{length, getD};
+ghost use lib.ListN.{length, getD, take};
 ghost use Rattle.folds.specs.Fold.{listTo, over, zeros};
-ghost use Rattle.graph.specs.Graph.{graphOf, via, arcs};
-ghost use Rattle.graph.specs.Links.{Linked, Joins};
+ghost use Rattle.graph.specs.Graph.{graphOf, identity, arcs};
+ghost use Rattle.graph.specs.Links.{Linked, Joins, leave};
 ghost use Rattle.topology.specs.Level.{levelsOf};
 ghost use Rattle.levels.specs.Sweep.{Ordered};
-ghost use Rattle.matching.specs.Held.{Ready, Tall, Chosen, Paired, Stepped, Matched};
+ghost use Rattle.offers.specs.State.{Simple, offerOf, Widest};
+ghost use Rattle.matching.specs.Held.{Ready, Weights, Tall, Paired, Stepped, Matched};
 
-// The widest offer to u, of the lowest cluster that makes it. The sums are 0 before and after.
-fn best_for(row: &[u16], starts: &[u16], ends: &[u16], widths: &[u16], head: &[u16; 512], next: &[u16; 1024], levels: &[u16; 512], mates: &[u16; 512], blocked: &[u8; 512], costs: &[u32; 512], bound: u32, u: usize, sums: &mut [u32; 512]) -> offers::Best
-    requires { ⌜ Joins (now row) (now starts) (now ends) ⌝ }
-    requires { ⌜ Linked (via (now row) (now starts)) (length (now starts)) (now head) (now next) ⌝ }
-    requires { ⌜ (u < 512) × (length (now widths) ≡ length (now starts)) ⌝ }
-    requires { ⌜ ((c : ℕ) → getD (now costs) c 0 ≤ 33553920) × (now sums ≡ zeros 512) ⌝ }
-    ensures { λ r. ⌜ Chosen (arcs (now (row .entry)) (now (starts .entry)) (now (ends .entry))) (now (widths .entry)) (now (levels .entry)) (now (mates .entry)) (now (blocked .entry)) (now (costs .entry)) bound u (now (sums .exit)) (r .width) (r .to) ⌝ }
+// The widest offer to u, of the lowest cluster that makes it.
+fn best_for(row: &[u16], starts: &[u16], ends: &[u16], widths: &[u32], head: &[u16; 513], next: &[u16; 1024], levels: &[u16; 512], mates: &[u16; 512], blocked: &[u8; 512], costs: &[u32; 512], bound: u32, u: usize) -> offers::Best
+    requires { ⌜ Simple (now row) (now starts) (now ends) (now widths) ⌝ }
+    requires { ⌜ Linked (leave (arcs (now row) (now starts) (now ends))) (length (now starts)) (now head) (now next) ⌝ }
+    requires { ⌜ (u < 512) × ((c : ℕ) → getD (now costs) c 0 ≤ 33553920) ⌝ }
+    ensures { λ r. ⌜ Widest (arcs (now (row .entry)) (now (starts .entry)) (now (ends .entry))) (offerOf (arcs (now (row .entry)) (now (starts .entry)) (now (ends .entry))) (now (widths .entry)) (now (levels .entry)) (now (mates .entry)) (now (blocked .entry)) (now (costs .entry)) bound u) u (length (now (starts .entry))) (r .width) (r .to) ⌝ }
 {
-    let total = offers::add_widths(row, starts, ends, widths, head, next, u, sums);
-    let best = offers::choose(row, starts, ends, head, next, levels, mates, blocked, costs, bound, u, sums, total);
-    offers::clear(row, starts, ends, head, next, u, sums);
-    best
+    let total = offers::total(row, starts, ends, widths, head, next, u);
+    offers::choose(row, starts, ends, widths, head, next, levels, mates, blocked, costs, bound, u, total)
 }
 
 // Makes u and v a pair.
-fn join(row: &[u16], starts: &[u16], ends: &[u16], head: &[u16; 512], next: &[u16; 1024], levels: &[u16; 512], u: usize, v: usize, mates: &mut [u16; 512], tos: &mut [u8; 512], blocked: &mut [u8; 512])
+fn join(row: &[u16], starts: &[u16], ends: &[u16], head: &[u16; 513], next: &[u16; 1024], levels: &[u16; 512], u: usize, v: usize, mates: &mut [u16; 512], tos: &mut [u8; 512], blocked: &mut [u8; 512])
     requires { ⌜ Joins (now row) (now starts) (now ends) ⌝ }
-    requires { ⌜ Linked (via (now row) (now starts)) (length (now starts)) (now head) (now next) ⌝ }
+    requires { ⌜ Linked (leave (arcs (now row) (now starts) (now ends))) (length (now starts)) (now head) (now next) ⌝ }
     requires { ⌜ (u < 512) × (v < 512) ⌝ }
     requires { ⌜ Tall (now mates) (now tos) (now blocked) ⌝ }
     ensures { λ _. ⌜ Paired (arcs (now (row .entry)) (now (starts .entry)) (now (ends .entry))) (now (levels .entry)) u v (now (mates .entry)) (now (tos .entry)) (now (blocked .entry)) (now (mates .exit)) (now (tos .exit)) (now (blocked .exit)) ⌝ }
@@ -38,13 +36,12 @@ fn join(row: &[u16], starts: &[u16], ends: &[u16], head: &[u16; 512], next: &[u1
 }
 
 // Visits u: pairs it with the successor that makes the widest offer, where there is one. Answers how many pairs that adds.
-fn visit(row: &[u16], starts: &[u16], ends: &[u16], widths: &[u16], head: &[u16; 512], next: &[u16; 1024], levels: &[u16; 512], costs: &[u32; 512], bound: u32, u: usize, mates: &mut [u16; 512], tos: &mut [u8; 512], blocked: &mut [u8; 512], sums: &mut [u32; 512]) -> usize
-    requires { ⌜ Joins (now row) (now starts) (now ends) ⌝ }
-    requires { ⌜ Linked (via (now row) (now starts)) (length (now starts)) (now head) (now next) ⌝ }
-    requires { ⌜ (u < 512) × (length (now widths) ≡ length (now starts)) ⌝ }
-    requires { ⌜ ((c : ℕ) → getD (now costs) c 0 ≤ 33553920) × (now sums ≡ zeros 512) ⌝ }
+fn visit(row: &[u16], starts: &[u16], ends: &[u16], widths: &[u32], head: &[u16; 513], next: &[u16; 1024], levels: &[u16; 512], costs: &[u32; 512], bound: u32, u: usize, mates: &mut [u16; 512], tos: &mut [u8; 512], blocked: &mut [u8; 512]) -> usize
+    requires { ⌜ Simple (now row) (now starts) (now ends) (now widths) ⌝ }
+    requires { ⌜ Linked (leave (arcs (now row) (now starts) (now ends))) (length (now starts)) (now head) (now next) ⌝ }
+    requires { ⌜ (u < 512) × ((c : ℕ) → getD (now costs) c 0 ≤ 33553920) ⌝ }
     requires { ⌜ Tall (now mates) (now tos) (now blocked) ⌝ }
-    ensures { λ r. ⌜ Stepped (now (row .entry)) (now (starts .entry)) (now (ends .entry)) (now (widths .entry)) (now (levels .entry)) (now (costs .entry)) bound u (now (mates .entry)) (now (tos .entry)) (now (blocked .entry)) (now (mates .exit)) (now (tos .exit)) (now (blocked .exit)) (now (sums .exit)) r ⌝ }
+    ensures { λ r. ⌜ Stepped (now (row .entry)) (now (starts .entry)) (now (ends .entry)) (now (widths .entry)) (now (levels .entry)) (now (costs .entry)) bound u (now (mates .entry)) (now (tos .entry)) (now (blocked .entry)) (now (mates .exit)) (now (tos .exit)) (now (blocked .exit)) r ⌝ }
 {
     if folds::wide(mates[u]) != u {
         return 0;
@@ -52,7 +49,7 @@ fn visit(row: &[u16], starts: &[u16], ends: &[u16], widths: &[u16], head: &[u16;
     if offers::stops(row, starts, ends, head, next, levels, tos, u) {
         return 0;
     }
-    let best = best_for(row, starts, ends, widths, head, next, levels, mates, blocked, costs, bound, u, sums);
+    let best = best_for(row, starts, ends, widths, head, next, levels, mates, blocked, costs, bound, u);
     if best.width == 0 {
         return 0;
     }
@@ -74,40 +71,39 @@ fn singles(mates: &mut [u16; 512])
 }
 
 // Visits the clusters in topological order, by their levels. Answers how many pairs were made.
-fn pairs(costs: &[u16], row: &[u16], starts: &[u16], ends: &[u16], widths: &[u16], order: &[u16; 512], levels: &[u16; 512], g: usize, bound: u32, mates: &mut [u16; 512]) -> usize
-    requires { ⌜ Ready (graphOf (now costs) (now starts) (now ends) (now widths)) (now row) g ⌝ }
+fn pairs(costs: &[u32; 512], row: &[u16], starts: &[u16], ends: &[u16], widths: &[u32], head: &[u16; 513], next: &[u16; 1024], order: &[u16], levels: &[u16; 512], g: usize, bound: u32, mates: &mut [u16; 512]) -> usize
+    requires { ⌜ Ready (graphOf (take g (now costs)) (now starts) (now ends) (now widths)) (now row) g ⌝ }
+    requires { ⌜ Weights g (now costs) × (now row ≡ identity g) × Simple (now row) (now starts) (now ends) (now widths) ⌝ }
+    requires { ⌜ Linked (leave (arcs (now row) (now starts) (now ends))) (length (now starts)) (now head) (now next) ⌝ }
     requires { ⌜ Ordered (arcs (now row) (now starts) (now ends)) g (now order) ⌝ }
     requires { ⌜ now levels ≡ over (levelsOf (arcs (now row) (now starts) (now ends)) g) (zeros 512) ⌝ }
-    ensures { λ r. ⌜ Matched (graphOf (now (costs .entry)) (now (starts .entry)) (now (ends .entry)) (now (widths .entry))) bound (now (row .entry)) (now (mates .exit)) r ⌝ }
+    ensures { λ r. ⌜ Matched (graphOf (take g (now (costs .entry))) (now (starts .entry)) (now (ends .entry)) (now (widths .entry))) bound (now (row .entry)) (now (mates .exit)) r ⌝ }
 {
-    let mut head = [0u16; 512];
-    let mut next = [0u16; 1024];
-    let mut weights = [0; 512];
     // The ends of pairs, and what rule 2 keeps from becoming one.
     let mut tos = [0; 512];
     let mut blocked = [0; 512];
-    let mut sums = [0; 512];
-    graph::fill(row, starts, &mut head, &mut next);
-    offers::weigh(costs, row, &mut weights);
     singles(mates);
     let mut count: usize = 0;
     let mut i: usize = 0;
     while i < g {
-        let u = folds::wide(order[i]);
-        count += visit(row, starts, ends, widths, &head, &next, levels, &weights, bound, u, mates, &mut tos, &mut blocked, &mut sums);
+        let u = folds::at16(order, i);
+        count += visit(row, starts, ends, widths, head, next, levels, costs, bound, u, mates, &mut tos, &mut blocked);
         i += 1;
     }
     count
 }
 
-// One round on a row of g clusters: the mate of each cluster, its own number where it has none. Answers how many pairs there are.
-pub fn round(costs: &[u16], row: &[u16], starts: &[u16], ends: &[u16], widths: &[u16], g: usize, bound: u32, mates: &mut [u16; 512]) -> usize
-    requires { ⌜ Ready (graphOf (now costs) (now starts) (now ends) (now widths)) (now row) g ⌝ }
-    ensures { λ r. ⌜ Matched (graphOf (now (costs .entry)) (now (starts .entry)) (now (ends .entry)) (now (widths .entry))) bound (now (row .entry)) (now (mates .exit)) r ⌝ }
+// One round on the lists of a rung with g clusters: the mate of each cluster, its own number where it has none. Answers how many pairs there are.
+pub fn round(costs: &[u32; 512], row: &[u16], starts: &[u16], ends: &[u16], widths: &[u32], order: &[u16], g: usize, bound: u32, mates: &mut [u16; 512]) -> usize
+    requires { ⌜ Ready (graphOf (take g (now costs)) (now starts) (now ends) (now widths)) (now row) g ⌝ }
+    requires { ⌜ Weights g (now costs) × (now row ≡ identity g) × Simple (now row) (now starts) (now ends) (now widths) ⌝ }
+    requires { ⌜ Ordered (arcs (now row) (now starts) (now ends)) g (now order) ⌝ }
+    ensures { λ r. ⌜ Matched (graphOf (take g (now (costs .entry))) (now (starts .entry)) (now (ends .entry)) (now (widths .entry))) bound (now (row .entry)) (now (mates .exit)) r ⌝ }
 {
-    let mut order = [0u16; 512];
+    let mut head = [0u16; 513];
+    let mut next = [0u16; 1024];
     let mut levels = [0; 512];
-    topology::order(row, starts, ends, g, &mut order);
-    levels::sweep(row, starts, ends, &order, g, &mut levels);
-    pairs(costs, row, starts, ends, widths, &order, &levels, g, bound, mates)
+    graph::fill_leaving(row, starts, ends, &mut head, &mut next);
+    levels::sweep(row, starts, ends, &head, &next, order, g, &mut levels);
+    pairs(costs, row, starts, ends, widths, &head, &next, order, &levels, g, bound, mates)
 }

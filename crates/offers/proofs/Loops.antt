@@ -1,118 +1,91 @@
 -- The loops over the edges of a cluster: what each turn does to the arrays.
 use Prim.Native.Nat.{ℕ, _+_, _-_, _*_, _≤_, _<_}
 use mathlib.Core.Path.{_≡_, refl, sym, ap, _∙_}
-use mathlib.Core.Bool.{Bool, true, false, _||_}
+use mathlib.Core.Bool.{Bool, true, false, not, _&&_, _||_}
 use mathlib.Core.Logic.{_⊎_, inl, inr}
 use mathlib.Core.List.{List}
 use native.Mathlib.Omega.{arith}
 use lib.Dec.{eqb, ltb}
 use lib.ListN.{length, getD, set, length-set}
-use lib.Seq.{getD-set-same, getD-set-other, ext-getD}
+use lib.Seq.{getD-set-same, getD-set-other}
 use borrow.Author.Tests.{eqb-true, eq-eqb, ne-eqb, ltb-true, ltb-false, lt-ltb, le-ltb}
-use Rattle.folds.specs.Fold.{pick, when, zeros, Read}
-use Rattle.folds.proofs.Cases.{by, either, eq-or-ne, same-test}
-use Rattle.folds.proofs.Sums.{sumTo-zero, sumTo-turn}
-use Rattle.folds.proofs.Lists.{getD-zeros, length-zeros, set-add, set-at-most}
+use Rattle.folds.specs.Fold.{pick, when, sumTo}
+use Rattle.folds.proofs.Cases.{by, either, eq-or-ne, both, same-test, when-zero, when-le, and-false}
+use Rattle.folds.proofs.Sums.{sumTo-step, sumTo-mono, sumTo-less, sumTo-ext, sumTo-only}
 use Rattle.graph.specs.Graph.{Arcs, crossing}
-use Rattle.graph.specs.Links.{Linked}
+use Rattle.graph.specs.Links.{Linked, leave}
+use Rattle.graph.specs.Coarse.{sent, Narrow}
 use Rattle.graph.proofs.Edges.{arc-edge}
-use Rattle.graph.proofs.Links.{On, Only, Finds, walk-less, sum-on, sum-next}
-use Rattle.offers.specs.State.{Weighed, sent, leaves, Widths, Sparse, nextIn, halts, haltsAt, offerIn, Widest, Better, blockedOf, Blocking}
-
--- costs of clusters
-pub weighed-none : (costs row : List ℕ) → Weighed costs row 0 (zeros 512)
-unfolding zeros
-weighed-none costs row = record { tall = refl; is = λ c l. getD-zeros 512 c ∙ sym (sumTo-zero _); low = λ c. rw (getD-zeros 512 c) (omega arith) }
-
-pub weighed-turn : {costs row sums : List ℕ} {v c x b b′ : ℕ} → Weighed costs row v sums → Read row v b c → c < 512 → Read costs v b′ x → x < 65536
-    → Weighed costs row (v + 1) (set sums c (getD sums c 0 + x))
-weighed-turn {costs} {row} {sums} {v} {c} {x} W k lc e lx =
-    record {
-      tall = length-set sums c (getD sums c 0 + x) ∙ W .tall;
-      is = λ d ld. set-add sums c x d (omega (arith, W .tall)) ∙ sumTo-turn (λ i. when (eqb (getD row i 0) d) (getD costs i 0)) (W .is d ld) (rw (k .is, e .is));
-      low = λ d. set-at-most sums c (getD sums c 0 + x) (65535 * v) (65535 * (v + 1)) (omega arith) (omega (arith, W .low c)) (W .low) d;
-    }
+use Rattle.graph.proofs.Links.{leave-at, leave-from, stays, On, Only, Finds, walk-less, sum-on, sum-next}
+use Rattle.offers.specs.State.{leaves, Single, nextIn, halts, haltsAt, offerIn, offerOf, Widest, Better, blockedOf, Blocking}
 
 module _ (A : Arcs) (widths : List ℕ) (u : ℕ) where
-  sent-only : (b : ℕ) → Only (A .from) u (sent A widths u b)
-  unfolding sent
-  sent-only b i n = rw (ne-eqb (A .from i) u n)
+  inner : (i : ℕ) → (leave A i ≡ u → ⊥) → A .from i ≡ u → crossing A widths i ≡ 0
+  unfolding crossing
+  inner i n e = rw (eq-eqb (A .from i) (A .to i) (e ∙ sym (stays A i n e)))
 
-  leaves-only : Only (A .from) u (leaves A widths u)
+  leaves-only : Only (leave A) u (leaves A widths u)
   unfolding leaves
-  leaves-only i n = rw (ne-eqb (A .from i) u n)
+  leaves-only i n = either (eq-or-ne (A .from i) u) (λ e. rw (inner i n e) (when-zero (eqb (A .from i) u))) (λ o. rw (ne-eqb (A .from i) u o))
 
-  sent-at : (j b c w : ℕ) → A .from j ≡ u → c ≡ A .to j → w ≡ crossing A widths j → when (eqb c b) w ≡ sent A widths u b j
-  unfolding sent
-  sent-at j b c w e ec ew = rw (ec, ew, eq-eqb (A .from j) u e)
+  -- an edge that leaves u counts in full
+  cross-width : (j : ℕ) → leave A j ≡ u → u < 512 → crossing A widths j ≡ getD widths j 0
+  unfolding crossing leave
+  cross-width j e l = by (eqb (A .from j) (A .to j)) (λ t. let z : 512 ≡ u = rw t at e in absurd (omega arith)) (λ t. rw t)
 
-  leaves-at : (j w : ℕ) → A .from j ≡ u → w ≡ crossing A widths j → w ≡ leaves A widths u j
+  leaves-at : (j : ℕ) → leave A j ≡ u → u < 512 → getD widths j 0 ≡ leaves A widths u j
   unfolding leaves
-  leaves-at j w e ew = rw (eq-eqb (A .from j) u e) ew
+  leaves-at j e l = rw (cross-width j e l, eq-eqb (A .from j) u (leave-from A j e l))
 
-  module _ {m : ℕ} {head next : List ℕ} (L : Linked (A .from) m head next) where
-    pub widths-none : u < 512 → {sums : List ℕ} → sums ≡ zeros 512 → Widths A widths u (getD head u 0) sums 0
-    unfolding zeros
-    widths-none l {sums} e =
-        rw e
-        (record {
-          tall = refl;
-          is = λ b lb. getD-zeros 512 b ∙ sum-on L u (sent A widths u b) (sent-only b) l;
-          all = sum-on L u (leaves A widths u) leaves-only l;
-          low = λ b. rw (getD-zeros 512 b) (omega arith);
-          low-all = omega arith;
-        })
+  leaves-le : (j : ℕ) → leaves A widths u j ≤ getD widths j 0
+  unfolding leaves crossing
+  leaves-le j = omega (arith, when-le (eqb (A .from j) u) (when (not (eqb (A .from j) (A .to j))) (getD widths j 0)), when-le (not (eqb (A .from j) (A .to j))) (getD widths j 0))
 
-    pub widths-turn : {j b w total : ℕ} {sums : List ℕ} → On (A .from) m u j → j < m → b ≡ A .to j → b < 512 → w ≡ crossing A widths j → w < 65536
-        → Widths A widths u j sums total → Widths A widths u (getD next j 0) (set sums b (getD sums b 0 + w)) (total + w)
-    widths-turn {j} {b} {w} {total} {sums} o l eb lb ew lw W =
-        let less = walk-less L j l in
-        record {
-          tall = length-set sums b (getD sums b 0 + w) ∙ W .tall;
-          is = λ d ld. set-add sums b w d (omega (arith, W .tall)) ∙ sum-next L u j _ _ (sent A widths u d) (sent-only d) o l (W .is d ld) (sent-at j d b w (o .at l) eb ew);
-          all = sum-next L u j _ _ (leaves A widths u) leaves-only o l (W .all) (leaves-at j w (o .at l) ew);
-          low = λ d. set-at-most sums b (getD sums b 0 + w) (65535 * j) (65535 * getD next j 0) (omega arith) (omega (arith, W .low b)) (W .low) d;
-          low-all = omega (arith, W .low-all);
-        }
+  pub total-room : {j s : ℕ} → s ≡ sumTo j (leaves A widths u) → j < length widths → Narrow widths → s + getD widths j 0 ≤ 67107840
+  total-room {j} e l N =
+      omega (arith, sumTo-mono j (leaves A widths u) (λ i. getD widths i 0) (λ i _. leaves-le i), sumTo-step j (λ i. getD widths i 0), sumTo-less (λ i. getD widths i 0) (j + 1) (length widths) (omega arith))
 
--- back to 0
-module _ (A : Arcs) (u : ℕ) {head next : List ℕ} (L : Linked (A .from) (A .count) head next) where
-  pub sparse-on : u < 512 → {sums : List ℕ} → Sparse A u 0 sums → Sparse A u (getD head u 0) sums
-  sparse-on l S = record { tall = S .tall; zero-at = λ b lb n. S .zero-at b lb (λ i li h e q. early b i h e q n) }
+  module _ {m : ℕ} {head next : List ℕ} (L : Linked (leave A) m head next) (lu : u < 512) where
+    pub total-none : 0 ≡ sumTo (getD head u 0) (leaves A widths u)
+    total-none = sum-on L u (leaves A widths u) leaves-only lu
+
+    pub total-turn : {j s : ℕ} → On (leave A) m u j → j < m → s ≡ sumTo j (leaves A widths u) → s + getD widths j 0 ≡ sumTo (getD next j 0) (leaves A widths u)
+    total-turn {j} {s} o l e = sum-next L u j s (getD widths j 0) (leaves A widths u) leaves-only o l e (leaves-at j (o .at l) lu)
+
+  -- where no two edges go from one to the same, one edge is all that goes there
+  pub sent-one : (j : ℕ) → j < A .count → leave A j ≡ u → u < 512 → Single A → sumTo (A .count) (sent A widths u (A .to j)) ≡ getD widths j 0
+  unfolding sent
+  sent-one j l e lu S =
+      sumTo-ext (A .count) _ (λ i. when (eqb j i) (getD widths i 0)) (λ i li.
+        either (eq-or-ne j i)
+        (λ q. rw (← q, eq-eqb j j refl, eq-eqb (A .from j) u (leave-from A j e lu), eq-eqb (A .to j) (A .to j) refl) (cross-width j e lu))
+        (λ n. rw (ne-eqb j i n) (apart i li n)))
+      ∙ sumTo-only (A .count) j (λ i. getD widths i 0) l
     where
-      early : (b i : ℕ) → i < A .count → A .from i ≡ u → A .to i ≡ b → ((i : ℕ) → getD head u 0 ≤ i → i < A .count → A .from i ≡ u → A .to i ≡ b → ⊥) → ⊥
-      early b i h e q n = by (ltb i (getD head u 0)) (λ t. L .heads u l .skips i (omega arith) (ltb-true i _ t) e) (λ t. n i (ltb-false i _ t) h e q)
+      apart : (i : ℕ) → i < A .count → (j ≡ i → ⊥) → when (eqb (A .from i) u && eqb (A .to i) (A .to j)) (crossing A widths i) ≡ 0
+      apart i li n =
+          by (eqb (A .from i) u && eqb (A .to i) (A .to j))
+          (λ t. let (p, q) = both (eqb (A .from i) u) _ t in absurd (n (S j i l li (leave-from A j e lu ∙ sym (eqb-true (A .from i) u p)) (sym (eqb-true (A .to i) (A .to j) q)))))
+          (λ t. rw t)
 
-  pub sparse-turn : {j b : ℕ} {sums : List ℕ} → On (A .from) (A .count) u j → j < A .count → b ≡ A .to j → b < 512 → Sparse A u j sums → Sparse A u (getD next j 0) (set sums b 0)
-  sparse-turn {j} {b} {sums} o l eb lb S =
-      record {
-        tall = length-set sums b 0 ∙ S .tall;
-        zero-at = λ d ld n.
-          either (eq-or-ne d b) (λ e. rw e (getD-set-same sums b 0 0 (omega (arith, S .tall))))
-          (λ ne. getD-set-other sums b d 0 0 ne ∙ S .zero-at d ld (λ i li h e q. between d i ne li h e q n));
-      }
-    where
-      between : (d i : ℕ) → (d ≡ b → ⊥) → j ≤ i → i < A .count → A .from i ≡ u → A .to i ≡ d → ((i : ℕ) → getD next j 0 ≤ i → i < A .count → A .from i ≡ u → A .to i ≡ d → ⊥) → ⊥
-      between d i ne li h e q n =
-          either (eq-or-ne i j) (λ z. ne (sym q ∙ ap (A .to) z ∙ sym eb))
-          (λ z. by (ltb i (getD next j 0)) (λ t. L .nexts j l .skips i (omega arith) (ltb-true i _ t) (e ∙ sym (o .at l))) (λ t. n i (ltb-false i _ t) h e q))
-
-  pub sparse-end : {j : ℕ} {sums : List ℕ} → A .count ≤ j → Sparse A u j sums → sums ≡ zeros 512
-  sparse-end {j} {sums} l S =
-      ext-getD 0 sums (zeros 512) (S .tall ∙ sym (length-zeros 512))
-      (λ b lb. S .zero-at b (omega (arith, S .tall)) (λ i li h e q. omega arith) ∙ sym (getD-zeros 512 b))
+-- so its width is what the offer is by
+pub offer-at : (A : Arcs) (widths levels mates blocked costs : List ℕ) (bound u : ℕ) {j b w total : ℕ} → j < A .count → leave A j ≡ u → u < 512 → Single A → b ≡ A .to j
+    → total ≡ sumTo (A .count) (leaves A widths u) → w ≡ offerIn levels mates blocked costs bound u b (getD widths j 0) total → w ≡ offerOf A widths levels mates blocked costs bound u b
+unfolding offerOf
+offer-at A widths levels mates blocked costs bound u {j} {b} l e lu S eb et ew = rw (eb, sent-one A widths u j l e lu S, ← et) (rw eb at ew)
 
 -- the end of a pair on the next level
-pub halts-finds : (A : Arcs) (levels tos : List ℕ) (u : ℕ) → Finds (A .from) u (haltsAt A levels tos u)
-unfolding haltsAt
-halts-finds A levels tos u i n = rw (ne-eqb (A .from i) u n)
+pub halts-finds : (A : Arcs) (levels tos : List ℕ) (u : ℕ) → Finds (leave A) u (haltsAt A levels tos u)
+unfolding haltsAt halts
+halts-finds A levels tos u i n =
+    either (eq-or-ne (A .from i) u) (λ e. rw (eq-eqb (A .to i) u (stays A i n e)) (and-false (eqb (A .from i) u))) (λ o. rw (ne-eqb (A .from i) u o))
 
 pub halts-here : (A : Arcs) (levels tos : List ℕ) (u j : ℕ) {r : Bool} → A .from j ≡ u → r ≡ halts A levels tos u j → r ≡ haltsAt A levels tos u j
 unfolding haltsAt
 halts-here A levels tos u j e h = rw (eq-eqb (A .from j) u e) h
 
 -- the widest offer
-module _ (A : Arcs) (f : ℕ → ℕ) (u : ℕ) {m : ℕ} {head next : List ℕ} (L : Linked (A .from) m head next) where
+module _ (A : Arcs) (f : ℕ → ℕ) (u : ℕ) {m : ℕ} {head next : List ℕ} (L : Linked (leave A) m head next) where
   pub widest-none : u < 512 → (to : ℕ) → Widest A f u (getD head u 0) 0 to
   widest-none l to =
       record {
@@ -122,13 +95,13 @@ module _ (A : Arcs) (f : ℕ → ℕ) (u : ℕ) {m : ℕ} {head next : List ℕ}
       }
 
   -- the edges of u below the next one: those below j, and j
-  split : {j i : ℕ} → On (A .from) m u j → j < m → i < getD next j 0 → A .from i ≡ u → (i < j) ⊎ (i ≡ j)
+  split : {j i : ℕ} → On (leave A) m u j → j < m → i < getD next j 0 → leave A i ≡ u → (i < j) ⊎ (i ≡ j)
   split {j} {i} o l h e =
       by (ltb i j) (λ t. inl (ltb-true i j t))
       (λ t. either (eq-or-ne i j) (λ q. inr q) (λ q. absurd (L .nexts j l .skips i (omega (arith, ltb-false i j t)) h (e ∙ sym (o .at l)))))
 
   -- a wider one
-  pub widest-wider : {j b w width to : ℕ} → On (A .from) m u j → j < m → b ≡ A .to j → b < 512 → w ≡ f b → width < w → Widest A f u j width to → Widest A f u (getD next j 0) w b
+  pub widest-wider : {j b w width to : ℕ} → On (leave A) m u j → j < m → b ≡ A .to j → b < 512 → w ≡ f b → width < w → Widest A f u j width to → Widest A f u (getD next j 0) w b
   widest-wider {j} {b} {w} o l eb lb ew g W =
       record {
         top = λ i h e. either (split o l h e) (λ q. omega (arith, W .top i q e)) (λ q. omega (arith, ap f (ap (A .to) q ∙ sym eb)));
@@ -137,7 +110,7 @@ module _ (A : Arcs) (f : ℕ → ℕ) (u : ℕ) {m : ℕ} {head next : List ℕ}
       }
 
   -- one as wide, and lower
-  pub widest-lower : {j b w width to : ℕ} → On (A .from) m u j → j < m → b ≡ A .to j → b < 512 → w ≡ f b → w ≡ width → b < to → Widest A f u j width to → Widest A f u (getD next j 0) w b
+  pub widest-lower : {j b w width to : ℕ} → On (leave A) m u j → j < m → b ≡ A .to j → b < 512 → w ≡ f b → w ≡ width → b < to → Widest A f u j width to → Widest A f u (getD next j 0) w b
   widest-lower {j} {b} {w} {width} {to} o l eb lb ew e g W =
       record {
         top = λ i h q. either (split o l h q) (λ z. omega (arith, W .top i z q)) (λ z. omega (arith, ap f (ap (A .to) z ∙ sym eb)));
@@ -148,7 +121,7 @@ module _ (A : Arcs) (f : ℕ → ℕ) (u : ℕ) {m : ℕ} {head next : List ℕ}
       }
 
   -- one that is not as wide, or as wide and not lower
-  pub widest-keep : {j b w width to : ℕ} → On (A .from) m u j → j < m → b ≡ A .to j → w ≡ f b → w ≤ width → (w ≡ width → to ≤ b) → Widest A f u j width to → Widest A f u (getD next j 0) width to
+  pub widest-keep : {j b w width to : ℕ} → On (leave A) m u j → j < m → b ≡ A .to j → w ≡ f b → w ≤ width → (w ≡ width → to ≤ b) → Widest A f u j width to → Widest A f u (getD next j 0) width to
   widest-keep {j} {b} {w} {width} {to} o l eb ew g h W =
       record {
         top = λ i k q. either (split o l k q) (λ z. W .top i z q) (λ z. omega (arith, ap f (ap (A .to) z ∙ sym eb)));
@@ -157,25 +130,16 @@ module _ (A : Arcs) (f : ℕ → ℕ) (u : ℕ) {m : ℕ} {head next : List ℕ}
         hit = W .hit;
       }
 
-  pub widest-turn : {j b w width to width′ to′ : ℕ} → On (A .from) m u j → j < m → b ≡ A .to j → b < 512 → w ≡ f b → Better width to w b width′ to′
+  pub widest-turn : {j b w width to width′ to′ : ℕ} → On (leave A) m u j → j < m → b ≡ A .to j → b < 512 → w ≡ f b → Better width to w b width′ to′
       → Widest A f u j width to → Widest A f u (getD next j 0) width′ to′
   widest-turn o l eb lb ew B W =
       either (B .is) (λ (g, p, q). rw (p, q) (widest-wider o l eb lb ew g W))
       (λ s. either s (λ (e, g, p, q). rw (p, q) (widest-lower o l eb lb ew e g W)) (λ (g, h, p, q). rw (p, q) (widest-keep o l eb ew g h W)))
 
--- the same of offers that agree
-pub widest-ext : {A : Arcs} {f f′ : ℕ → ℕ} {u j width to : ℕ} → ((b : ℕ) → b < 512 → f b ≡ f′ b) → ((i : ℕ) → i < j → A .to i < 512) → Widest A f u j width to → Widest A f′ u j width to
-widest-ext {A} {f} {f′} e h W =
-    record {
-      top = λ i l q. omega (arith, e (A .to i) (h i l), W .top i l q);
-      low = λ i l q z. W .low i l q (e (A .to i) (h i l) ∙ z);
-      hit = either (W .hit) (λ z. inl z) (λ (q, l). inr (sym (e _ l) ∙ q, l));
-    }
-
 -- blocking
-module _ (A : Arcs) (levels : List ℕ) (u : ℕ) {m : ℕ} {head next : List ℕ} (L : Linked (A .from) m head next) where
+module _ (A : Arcs) (levels : List ℕ) (u : ℕ) {m : ℕ} {head next : List ℕ} (L : Linked (leave A) m head next) where
   pub blocking-none : u < 512 → {old : List ℕ} → length old ≡ 512 → Blocking A levels u (getD head u 0) old old
-  blocking-none l e = record { tall = e; keeps = λ b lb. inl refl; marks = λ i h q n t. absurd (L .heads u l .skips i (omega arith) h q) }
+  blocking-none l e = record { tall = e; keeps = λ b lb. inl refl; marks = λ i h q n t. absurd (L .heads u l .skips i (omega arith) h (leave-at A i q n)) }
 
   blocked-is : (new : List ℕ) (b d : ℕ) → b < length new
       → (getD (blockedOf levels u b new) d 0 ≡ getD new d 0) ⊎ ((d ≡ b) × (b ≡ u → ⊥) × (nextIn levels u b ≡ true) × (getD (blockedOf levels u b new) d 0 ≡ 1))
@@ -199,16 +163,19 @@ module _ (A : Arcs) (levels : List ℕ) (u : ℕ) {m : ℕ} {head next : List �
       go false true = length-set new b 1
       go false false = refl
 
-  pub blocking-turn : {j b : ℕ} {old new : List ℕ} → On (A .from) m u j → j < m → m ≡ A .count → b ≡ A .to j → b < 512 → Blocking A levels u j old new → Blocking A levels u (getD next j 0) old (blockedOf levels u b new)
-  blocking-turn {j} {b} {old} {new} o l em eb lb B =
+  pub blocking-turn : {j b : ℕ} {old new : List ℕ} → On (leave A) m u j → j < m → u < 512 → m ≡ A .count → b ≡ A .to j → b < 512 → Blocking A levels u j old new → Blocking A levels u (getD next j 0) old (blockedOf levels u b new)
+  blocking-turn {j} {b} {old} {new} o l lu em eb lb B =
       record {
         tall = length-blocked new b ∙ B .tall;
         keeps = λ d ld. either (blocked-is new b d room)
           (λ q. either (B .keeps d ld) (λ z. inl (q ∙ z)) (λ (z, t, n). inr (q ∙ z, t, n)))
-          (λ (ed, n, t, q). inr (q, rw (o .at l, sym eb ∙ sym ed) at (arc-edge A j (omega arith) (λ z. n (eb ∙ sym z ∙ o .at l))), rw ed t));
+          (λ (ed, n, t, q). inr (q, rw (near, sym eb ∙ sym ed) at (arc-edge A j (omega arith) (λ z. n (eb ∙ sym z ∙ near))), rw ed t));
         marks = λ i h e n t. marked i h e n t;
       }
     where
+      near : A .from j ≡ u
+      near = leave-from A j (o .at l) lu
+
       room : b < length new
       room = omega (arith, B .tall)
 
@@ -218,7 +185,7 @@ module _ (A : Arcs) (levels : List ℕ) (u : ℕ) {m : ℕ} {head next : List �
           (λ ne. by (ltb i j)
             (λ k. either (blocked-is new b (A .to i) room) (λ q. q ∙ B .marks i (ltb-true i j k) e n t) (λ z. absurd (ne (z .0))))
             (λ k. either (eq-or-ne i j) (λ q. absurd (ne (ap (A .to) q ∙ sym eb)))
-              (λ q. absurd (L .nexts j l .skips i (omega (arith, ltb-false i j k)) h (e ∙ sym (o .at l))))))
+              (λ q. absurd (L .nexts j l .skips i (omega (arith, ltb-false i j k)) h (leave-at A i e n ∙ sym (o .at l))))))
 
 -- a difference of 1, as the code reads it
 pub next-no : (levels : List ℕ) (u v : ℕ) → getD levels v 0 ≤ getD levels u 0 → false ≡ nextIn levels u v

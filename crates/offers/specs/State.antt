@@ -7,33 +7,24 @@ use mathlib.Core.List.{List}
 use lib.Dec.{eqb, ltb}
 use lib.ListN.{length, getD, set}
 use Rattle.folds.specs.Fold.{pick, when, sumTo}
-use Rattle.graph.specs.Graph.{Arcs, Edge, crossing}
+use Rattle.graph.specs.Graph.{Arcs, arcs, Edge, crossing}
+use Rattle.graph.specs.Links.{Joins, leave}
+use Rattle.graph.specs.Coarse.{sent, Narrow}
 
--- the cost of each cluster, of the vertices below i
-pub record Weighed (costs row : List ℕ) (i : ℕ) (sums : List ℕ) : Type 0 where
-  pub tall : length sums ≡ 512
-  pub is : (c : ℕ) → c < 512 → getD sums c 0 ≡ sumTo i (λ v. when (eqb (getD row v 0) c) (getD costs v 0))
-  pub low : (c : ℕ) → getD sums c 0 ≤ 65535 * i
-
--- what edge j sends from u to b, another one; and what it sends from u to any other
-unfoldable pub sent : Arcs → List ℕ → ℕ → ℕ → ℕ → ℕ
-sent A widths u b j = when (eqb (A .from j) u && eqb (A .to j) b) (crossing A widths j)
-
+-- what edge j sends from u to any other
 unfoldable pub leaves : Arcs → List ℕ → ℕ → ℕ → ℕ
 leaves A widths u j = when (eqb (A .from j) u) (crossing A widths j)
 
--- the summed width from u to each cluster and to all, of the edges below j
-pub record Widths (A : Arcs) (widths : List ℕ) (u j : ℕ) (sums : List ℕ) (total : ℕ) : Type 0 where
-  pub tall : length sums ≡ 512
-  pub is : (b : ℕ) → b < 512 → getD sums b 0 ≡ sumTo j (sent A widths u b)
-  pub all : total ≡ sumTo j (leaves A widths u)
-  pub low : (b : ℕ) → getD sums b 0 ≤ 65535 * j
-  pub low-all : total ≤ 65535 * j
+-- no two edges go from one to the same
+abbrev pub Single : Arcs → Type 0
+Single A = (i j : ℕ) → i < A .count → j < A .count → A .from i ≡ A .from j → A .to i ≡ A .to j → i ≡ j
 
--- an entry to which no edge of u from j on goes is 0
-pub record Sparse (A : Arcs) (u j : ℕ) (sums : List ℕ) : Type 0 where
-  pub tall : length sums ≡ 512
-  pub zero-at : (b : ℕ) → b < 512 → ((i : ℕ) → j ≤ i → i < A .count → A .from i ≡ u → A .to i ≡ b → ⊥) → getD sums b 0 ≡ 0
+-- edges between the clusters of a row, no two from one to the same, and their widths
+pub record Simple (row starts ends widths : List ℕ) : Type 0 where
+  pub joins : Joins row starts ends
+  pub same : length widths ≡ length starts
+  pub narrow : Narrow widths
+  pub single : Single (arcs row starts ends)
 
 -- the level of v is one above that of u, by an array of levels
 unfoldable pub nextIn : List ℕ → ℕ → ℕ → Bool
@@ -58,10 +49,10 @@ unfoldable pub offerOf : Arcs → List ℕ → List ℕ → List ℕ → List �
 offerOf A widths levels mates blocked costs bound u b =
     offerIn levels mates blocked costs bound u b (sumTo (A .count) (sent A widths u b)) (sumTo (A .count) (leaves A widths u))
 
--- the widest offer of u's edges below j, and the lowest cluster that makes it
+-- the widest offer of the edges below j that leave u, and the lowest cluster that makes it
 pub record Widest (A : Arcs) (f : ℕ → ℕ) (u j width to : ℕ) : Type 0 where
-  pub top : (i : ℕ) → i < j → A .from i ≡ u → f (A .to i) ≤ width
-  pub low : (i : ℕ) → i < j → A .from i ≡ u → f (A .to i) ≡ width → (width ≡ 0) ⊎ (to ≤ A .to i)
+  pub top : (i : ℕ) → i < j → leave A i ≡ u → f (A .to i) ≤ width
+  pub low : (i : ℕ) → i < j → leave A i ≡ u → f (A .to i) ≡ width → (width ≡ 0) ⊎ (to ≤ A .to i)
   pub hit : (width ≡ 0) ⊎ ((f to ≡ width) × (to < 512))
 
 -- (width′, to′) is the better of (w, b) and (width, to): the wider, or of two as wide the lower

@@ -1,65 +1,30 @@
-// Loops over the edges of a cluster: the widths that leave it, what its successors offer it, what a pair that begins at it blocks.
+// Loops over the edges of a cluster: the width that leaves it, what its successors offer it, what a pair that begins at it blocks.
 ghost use mathlib.Core.Path.{_≡_};
 ghost use mathlib.Core.Bool.{_||_};
 ghost use lib.Dec.{eqb};
 ghost use Prim.Native.Nat.{ℕ, _+_, _*_, _<_, _≤_};
 ghost use lib.ListN.{length, getD};
-ghost use Rattle.folds.specs.Fold.{pick, anyTo, zeros};
-ghost use Rattle.graph.specs.Graph.{via, arcs};
-ghost use Rattle.graph.specs.Links.{Linked, Joins};
-ghost use Rattle.offers.specs.State.{Weighed, Widths, Sparse, nextIn, halts, haltsAt, offerIn, Widest, Better, blockedOf, Blocking};
+ghost use Rattle.folds.specs.Fold.{pick, sumTo, anyTo};
+ghost use Rattle.graph.specs.Graph.{arcs};
+ghost use Rattle.graph.specs.Links.{Linked, Joins, leave};
+ghost use Rattle.graph.specs.Coarse.{Narrow};
+ghost use Rattle.offers.specs.State.{leaves, Single, nextIn, halts, haltsAt, offerIn, offerOf, Widest, Better, blockedOf, Blocking};
 
-// The cost of each cluster.
-pub fn weigh(costs: &[u16], row: &[u16], sums: &mut [u32; 512])
-    requires { ⌜ (length (now costs) ≡ length (now row)) × (length (now row) ≤ 512) ⌝ }
-    requires { ⌜ ((v : ℕ) → v < length (now row) → getD (now row) v 0 < 512) ⌝ }
-    ensures { λ _. ⌜ Weighed (now (costs .entry)) (now (row .entry)) (length (now (row .entry))) (now (sums .exit)) ⌝ }
-{
-    *sums = [0; 512];
-    let mut v: usize = 0;
-    while v < row.len() {
-        let c = folds::at16(row, v);
-        let x = folds::at16(costs, v);
-        sums[c] = sums[c] + x as u32;
-        v += 1;
-    }
-}
-
-// Adds the width of each edge of u to the entry of the cluster it goes to. Answers their sum.
-pub fn add_widths(row: &[u16], starts: &[u16], ends: &[u16], widths: &[u16], head: &[u16; 512], next: &[u16; 1024], u: usize, sums: &mut [u32; 512]) -> u32
+// The width of all edges that leave u.
+pub fn total(row: &[u16], starts: &[u16], ends: &[u16], widths: &[u32], head: &[u16; 513], next: &[u16; 1024], u: usize) -> u32
     requires { ⌜ Joins (now row) (now starts) (now ends) ⌝ }
-    requires { ⌜ Linked (via (now row) (now starts)) (length (now starts)) (now head) (now next) ⌝ }
-    requires { ⌜ (u < 512) × (length (now widths) ≡ length (now starts)) ⌝ }
-    requires { ⌜ now sums ≡ zeros 512 ⌝ }
-    ensures { λ r. ⌜ Widths (arcs (now (row .entry)) (now (starts .entry)) (now (ends .entry))) (now (widths .entry)) u (length (now (starts .entry))) (now (sums .exit)) r ⌝ }
+    requires { ⌜ Linked (leave (arcs (now row) (now starts) (now ends))) (length (now starts)) (now head) (now next) ⌝ }
+    requires { ⌜ (u < 512) × (length (now widths) ≡ length (now starts)) × Narrow (now widths) ⌝ }
+    ensures { λ r. ⌜ r ≡ sumTo (length (now (starts .entry))) (leaves (arcs (now (row .entry)) (now (starts .entry)) (now (ends .entry))) (now (widths .entry)) u) ⌝ }
 {
     let m = starts.len();
-    let mut total: u32 = 0;
+    let mut sum: u32 = 0;
     let mut j = folds::wide(head[u]);
     while j < m {
-        let b = graph::cluster(row, ends, j);
-        let w = graph::crossing(row, starts, ends, widths, j);
-        sums[b] = sums[b] + w;
-        total += w;
+        sum += widths[j];
         j = folds::wide(next[j]);
     }
-    total
-}
-
-// Sets the entries that the edges of u go to back to 0.
-pub fn clear(row: &[u16], starts: &[u16], ends: &[u16], head: &[u16; 512], next: &[u16; 1024], u: usize, sums: &mut [u32; 512])
-    requires { ⌜ Joins (now row) (now starts) (now ends) ⌝ }
-    requires { ⌜ Linked (via (now row) (now starts)) (length (now starts)) (now head) (now next) ⌝ }
-    requires { ⌜ (u < 512) × Sparse (arcs (now row) (now starts) (now ends)) u 0 (now sums) ⌝ }
-    ensures { λ _. ⌜ now (sums .exit) ≡ zeros 512 ⌝ }
-{
-    let m = starts.len();
-    let mut j = folds::wide(head[u]);
-    while j < m {
-        let b = graph::cluster(row, ends, j);
-        sums[b] = 0;
-        j = folds::wide(next[j]);
-    }
+    sum
 }
 
 // Whether v lies on the level after u's.
@@ -92,9 +57,9 @@ fn halts_at(row: &[u16], starts: &[u16], ends: &[u16], levels: &[u16; 512], tos:
 }
 
 // Whether some edge of u goes to the end of a pair, on the next level: then no pair may begin at u.
-pub fn stops(row: &[u16], starts: &[u16], ends: &[u16], head: &[u16; 512], next: &[u16; 1024], levels: &[u16; 512], tos: &[u8; 512], u: usize) -> bool
+pub fn stops(row: &[u16], starts: &[u16], ends: &[u16], head: &[u16; 513], next: &[u16; 1024], levels: &[u16; 512], tos: &[u8; 512], u: usize) -> bool
     requires { ⌜ Joins (now row) (now starts) (now ends) ⌝ }
-    requires { ⌜ Linked (via (now row) (now starts)) (length (now starts)) (now head) (now next) ⌝ }
+    requires { ⌜ Linked (leave (arcs (now row) (now starts) (now ends))) (length (now starts)) (now head) (now next) ⌝ }
     requires { ⌜ u < 512 ⌝ }
     ensures { λ r. ⌜ r ≡ anyTo (length (now (starts .entry))) (haltsAt (arcs (now (row .entry)) (now (starts .entry)) (now (ends .entry))) (now (levels .entry)) (now (tos .entry)) u) ⌝ }
 {
@@ -163,18 +128,20 @@ fn better(best: Best, w: u32, b: usize) -> Best
 }
 
 // The widest offer to u, of the lowest cluster that makes it.
-pub fn choose(row: &[u16], starts: &[u16], ends: &[u16], head: &[u16; 512], next: &[u16; 1024], levels: &[u16; 512], mates: &[u16; 512], blocked: &[u8; 512], costs: &[u32; 512], bound: u32, u: usize, sums: &[u32; 512], total: u32) -> Best
+pub fn choose(row: &[u16], starts: &[u16], ends: &[u16], widths: &[u32], head: &[u16; 513], next: &[u16; 1024], levels: &[u16; 512], mates: &[u16; 512], blocked: &[u8; 512], costs: &[u32; 512], bound: u32, u: usize, total: u32) -> Best
     requires { ⌜ Joins (now row) (now starts) (now ends) ⌝ }
-    requires { ⌜ Linked (via (now row) (now starts)) (length (now starts)) (now head) (now next) ⌝ }
-    requires { ⌜ (u < 512) × ((c : ℕ) → getD (now costs) c 0 ≤ 33553920) ⌝ }
-    ensures { λ r. ⌜ Widest (arcs (now (row .entry)) (now (starts .entry)) (now (ends .entry))) (λ b. offerIn (now (levels .entry)) (now (mates .entry)) (now (blocked .entry)) (now (costs .entry)) bound u b (getD (now (sums .entry)) b 0) total) u (length (now (starts .entry))) (r .width) (r .to) ⌝ }
+    requires { ⌜ Linked (leave (arcs (now row) (now starts) (now ends))) (length (now starts)) (now head) (now next) ⌝ }
+    requires { ⌜ (u < 512) × (length (now widths) ≡ length (now starts)) × Single (arcs (now row) (now starts) (now ends)) ⌝ }
+    requires { ⌜ ((c : ℕ) → getD (now costs) c 0 ≤ 33553920) ⌝ }
+    requires { ⌜ total ≡ sumTo (length (now starts)) (leaves (arcs (now row) (now starts) (now ends)) (now widths) u) ⌝ }
+    ensures { λ r. ⌜ Widest (arcs (now (row .entry)) (now (starts .entry)) (now (ends .entry))) (offerOf (arcs (now (row .entry)) (now (starts .entry)) (now (ends .entry))) (now (widths .entry)) (now (levels .entry)) (now (mates .entry)) (now (blocked .entry)) (now (costs .entry)) bound u) u (length (now (starts .entry))) (r .width) (r .to) ⌝ }
 {
     let m = starts.len();
     let mut best = Best { width: 0, to: 512 };
     let mut j = folds::wide(head[u]);
     while j < m {
         let b = graph::cluster(row, ends, j);
-        let w = offer(levels, mates, blocked, costs, bound, u, b, sums[b], total);
+        let w = offer(levels, mates, blocked, costs, bound, u, b, widths[j], total);
         best = better(best, w, b);
         j = folds::wide(next[j]);
     }
@@ -195,9 +162,9 @@ fn mark_next(levels: &[u16; 512], u: usize, b: usize, blocked: &mut [u8; 512])
 }
 
 // Blocks what the edges of u go to on the level after u's.
-pub fn block(row: &[u16], starts: &[u16], ends: &[u16], head: &[u16; 512], next: &[u16; 1024], levels: &[u16; 512], u: usize, blocked: &mut [u8; 512])
+pub fn block(row: &[u16], starts: &[u16], ends: &[u16], head: &[u16; 513], next: &[u16; 1024], levels: &[u16; 512], u: usize, blocked: &mut [u8; 512])
     requires { ⌜ Joins (now row) (now starts) (now ends) ⌝ }
-    requires { ⌜ Linked (via (now row) (now starts)) (length (now starts)) (now head) (now next) ⌝ }
+    requires { ⌜ Linked (leave (arcs (now row) (now starts) (now ends))) (length (now starts)) (now head) (now next) ⌝ }
     requires { ⌜ (u < 512) × (length (now blocked) ≡ 512) ⌝ }
     ensures { λ _. ⌜ Blocking (arcs (now (row .entry)) (now (starts .entry)) (now (ends .entry))) (now (levels .entry)) u (length (now (starts .entry))) (now (blocked .entry)) (now (blocked .exit)) ⌝ }
 {

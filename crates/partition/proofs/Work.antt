@@ -1,5 +1,5 @@
 -- The phases one after the other, from what each call answered.
-use Prim.Native.Nat.{ℕ, suc, _+_, _*_, _/_, _≤_}
+use Prim.Native.Nat.{ℕ, suc, _+_, _*_, _/_, _≤_, _<_}
 use mathlib.Core.Path.{_≡_, refl, sym, ap, _∙_}
 use mathlib.Core.Bool.{Bool, true, _&&_}
 use mathlib.Core.List.{List, _++_}
@@ -13,7 +13,8 @@ use borrow.Author.Tests.{leb-true, le-leb}
 use Rattle.folds.proofs.Cases.{both, same-test}
 use Rattle.folds.specs.Fold.{over}
 use Rattle.folds.proofs.Slices.{take-over, length-over}
-use Rattle.graph.specs.Graph.{Graph, vertices}
+use Rattle.graph.specs.Graph.{Graph, vertices, edges}
+use Rattle.graph.specs.Coarse.{Stored}
 use Rattle.graph.specs.Rows.{Hierarchy}
 use Rattle.validity.specs.Cause.{refusal}
 use Rattle.validity.specs.Check.{checked, Valid}
@@ -23,11 +24,11 @@ use Rattle.validity.specs.declared.Verdict.{Verdict}
 use Rattle.validity.specs.declared.Verdict.the-variants.{Passed, Refused}
 use Rattle.validity.proofs.Passed.{passed-valid, valid-sound}
 use Rattle.hierarchy.specs.Climb.{rowsOf, keptOf, rowOf, flat, ladderAfter}
-use Rattle.hierarchy.specs.Built.{Built, Buildable}
+use Rattle.hierarchy.specs.Built.{rowAt, Carried, Built, Buildable}
 use Rattle.hierarchy.proofs.Flat.{length-flat}
 use Rattle.hierarchy.proofs.Own.{rows-hierarchy, hierarchy-ext, row-sound, ladder-row, kept-few}
 use Rattle.initial.specs.Initial.{found, uncut, chosenOf}
-use Rattle.initial.specs.Answers.{Chooses, Lent}
+use Rattle.initial.specs.Answers.{Chooses, Lent, Ordered}
 use Rattle.graph.specs.Rows.{rowsIn}
 use Rattle.initial.specs.declared.Initial.{Initial}
 use Rattle.initial.specs.declared.Initial.the-variants.{At}
@@ -38,6 +39,7 @@ use Rattle.moves.specs.Entries.{stateOf, Good}
 use Rattle.moves.specs.Pass.{refined}
 use Rattle.moves.proofs.Claims.{refined-good}
 use Rattle.refine.specs.Down.{Descends, Refined}
+use Rattle.refine.proofs.Down.{lower-stored}
 use Rattle.refine.specs.declared.Outcome.{Outcome}
 use Rattle.partition.specs.Phases.{Result, nothing, parted, firstOf, resultOf}
 use Rattle.partition.specs.Split.{answerBy, innerOf, valuesOf, roomFor, verdictOf, splitOf, tableAfter, ladderLeft, Works}
@@ -51,7 +53,7 @@ unfolding over
 over-over a b l e = ap (λ (x : List ℕ). a ++ x) (drop-at b (drop (length b) l) (length a) (sym e) ∙ ap (λ (n : ℕ). drop n l) (sym e))
 
 pub sound-builds : {G : Graph} {k bound : ℕ} → Sound G k bound → Buildable G k
-sound-builds S = record { proper = S .proper; acyclic = S .acyclic; few = S .few }
+sound-builds S = record { proper = S .proper; apart = S .apart; once = S .once; acyclic = S .acyclic; few = S .few }
 
 -- the result, from what the phases left
 works-found : (G : Graph) (k bound : ℕ) {table ladder ladder′ table′ table″ first : List ℕ} {rounds rung c : ℕ} {out : Outcome}
@@ -111,6 +113,10 @@ module _ (G : Graph) (k bound : ℕ) (S : Sound G k bound) where
     pub choose-lent : Lent (vertices G) k rounds ladder′ table
     choose-lent = record { parts = (S .some, S .few); few = omega (arith, few, B .kept-is); long = held rounds (omega arith); room = lt }
 
+    -- the orders that were carried, as the second phase asks for them
+    pub choose-orders : {froms tos widths sizes orders : List ℕ} → Carried G (rowAt G ladder′) rounds froms tos widths sizes orders → Ordered G (rowsIn ladder′ (vertices G)) rounds orders
+    choose-orders D = record { long = D .long; is = D .order }
+
     -- after the second
     module _ {table′ : List ℕ} {a : Initial} (C : Chooses (chosenOf G k bound (rowsIn ladder′ (vertices G)) rounds) table table′ a) where
       first-is : chosenOf G k bound (rowsIn ladder′ (vertices G)) rounds ≡ firstOf G k bound
@@ -143,6 +149,12 @@ module _ (G : Graph) (k bound : ℕ) (S : Sound G k bound) where
         pub refine-descends : Descends G k bound ladder′ rung (take (vertices G) table′)
         refine-descends =
             record { proper = S .proper; hierarchy = part-hierarchy rung below; good = rw front start; few = S .few; held = held rung below }
+
+        pub refine-stored : {froms tos widths sizes orders : List ℕ} → Carried G (rowAt G ladder′) rounds froms tos widths sizes orders → Stored G (rowsIn ladder′ (vertices G)) rung (edges G) froms tos widths sizes
+        refine-stored D = lower-stored rung below (D .lists)
+
+        pub refine-few : rung < 9
+        refine-few = omega (arith, below, few, B .kept-is)
 
         -- and after the third
         pub work-found : {table″ : List ℕ} {out : Outcome} → Refined G k bound ladder′ rung table′ table″ out

@@ -33,7 +33,37 @@ fn enough(n: usize, table: usize, ladder: usize) -> bool
     false
 }
 
-// The three phases of the paper: coarsen, initial partition, refine.
+// The three phases of the paper: coarsen, initial partition, refine. What is lent beside the tables holds the lists and the orders of the rows.
+fn phases(
+    costs: &[u16],
+    starts: &[u16],
+    ends: &[u16],
+    widths: &[u16],
+    k: usize,
+    bound: u32,
+    table: &mut [u16],
+    ladder: &mut [u16],
+    froms: &mut [u16],
+    tos: &mut [u16],
+    wides: &mut [u32],
+    orders: &mut [u16],
+) -> Inner
+    requires { ⌜ Sound (graphOf (now costs) (now starts) (now ends) (now widths)) k bound ⌝ }
+    requires { ⌜ (length (now costs) ≤ length (now table)) × (9 * length (now costs) ≤ length (now ladder)) ⌝ }
+    requires { ⌜ (9 * length (now starts) ≤ length (now froms)) × (9 * length (now starts) ≤ length (now tos)) × (9 * length (now starts) ≤ length (now wides)) × (9 * length (now costs) ≤ length (now orders)) ⌝ }
+    ensures { λ r. ⌜ Works (graphOf (now (costs .entry)) (now (starts .entry)) (now (ends .entry)) (now (widths .entry))) k bound (now (table .entry)) (now (ladder .entry)) (now (table .exit)) (now (ladder .exit)) r ⌝ }
+{
+    let mut sizes = [0; 9];
+    let rounds = hierarchy::build(costs, starts, ends, widths, k, bound, ladder, froms, tos, wides, &mut sizes, orders);
+    let first = initial::choose(costs, starts, ends, widths, ladder, orders, rounds, k, bound, table);
+    let Initial::At(rung, _) = first else {
+        return Inner::Nothing;
+    };
+    let last = refine::refine(costs, starts, ends, widths, k, bound, ladder, froms, tos, wides, &sizes, rung, table);
+    Inner::Found(last.cut, rounds, rung, last.moves)
+}
+
+// The phases, on local arrays that are large enough.
 fn partition(
     costs: &[u16],
     starts: &[u16],
@@ -48,13 +78,11 @@ fn partition(
     requires { ⌜ (length (now costs) ≤ length (now table)) × (9 * length (now costs) ≤ length (now ladder)) ⌝ }
     ensures { λ r. ⌜ Works (graphOf (now (costs .entry)) (now (starts .entry)) (now (ends .entry)) (now (widths .entry))) k bound (now (table .entry)) (now (ladder .entry)) (now (table .exit)) (now (ladder .exit)) r ⌝ }
 {
-    let rounds = hierarchy::build(costs, starts, ends, widths, k, bound, ladder);
-    let first = initial::choose(costs, starts, ends, widths, ladder, rounds, k, bound, table);
-    let Initial::At(rung, _) = first else {
-        return Inner::Nothing;
-    };
-    let last = refine::refine(costs, starts, ends, widths, k, bound, ladder, rung, table);
-    Inner::Found(last.cut, rounds, rung, last.moves)
+    let mut froms = [0; 9216];
+    let mut tos = [0; 9216];
+    let mut wides = [0; 9216];
+    let mut orders = [0; 4608];
+    phases(costs, starts, ends, widths, k, bound, table, ladder, &mut froms, &mut tos, &mut wides, &mut orders)
 }
 
 // Document 01, the split: checks 1 to 8, then the phases; 9 where no rung can be cut.

@@ -13,7 +13,8 @@ use Rattle.folds.proofs.Cases.{by, both, either, eq-or-ne, same-test}
 use Rattle.folds.proofs.Sums.{sumTo-ext, sumTo-add, sumTo-none, sumTo-member}
 use Rattle.folds.proofs.Searches.{any-e, any-none}
 use Rattle.folds.proofs.Lists.{listTo-ext}
-use Rattle.graph.specs.Graph.{Graph, vertices, costIn, partCost, through, Proper}
+use Rattle.graph.specs.Graph.{Graph, vertices, costIn, partCost, through, RowOf, Proper}
+use Rattle.graph.specs.Coarse.{Coarse}
 use Rattle.graph.specs.Rows.{clusters}
 use Rattle.graph.proofs.Edges.{through-at, length-through}
 use Rattle.moves.specs.Move.{partSize, movedTo, partOf, pull, gainTo}
@@ -22,10 +23,11 @@ use Rattle.moves.proofs.Move.{cost-new, cost-old, cost-third}
 use Rattle.moves.proofs.Signed.{less-gain}
 use Rattle.moves.proofs.Entries.{first-of, moved-at}
 use Rattle.visit.specs.Visit.{Placed}
-use Rattle.refine.specs.Sums.{SumsOf, sumsAllow}
-use Rattle.refine.specs.Work.{betterOf, backOf, choiceOf, Work, net, choiceAt, movedBy, worked}
-use Rattle.refine.proofs.Sums.{shifted-sums}
-use Rattle.refine.proofs.Work.{placed-set, choice-below}
+use Rattle.part_sums.specs.Sums.{SumsOf, sumsAllow}
+use Rattle.pass.specs.Work.{betterOf, backOf, choiceOf, Work, choiceAt, movedBy, worked}
+use Rattle.part_sums.proofs.Sums.{shifted-sums}
+use Rattle.pass.proofs.Work.{placed-set, choice-below, choice-ext}
+use Rattle.refine.proofs.Lists.{low-lists, high-lists, pull-lists}
 
 -- the part of a cluster, and a move, through the clusters' table
 pub part-through : (row table : List ℕ) (h v : ℕ) → v < length row → getD row v 0 ≡ h → partOf row (through row table) h ≡ getD table h 0
@@ -96,9 +98,12 @@ pub record Follows (G : Graph) (k : ℕ) (row : List ℕ) (w : Work) (s : Tally)
   pub placed : Placed (w .table)
 
 -- one cluster h of a row, with a vertex of it
-module _ (G : Graph) (P : Proper G) (k bound : ℕ) (row costs : List ℕ) (whole : length row ≡ vertices G) (few : k ≤ 16)
+module _ (G : Graph) (P : Proper G) (k bound : ℕ) (row costs froms tos widths : List ℕ) (row-of : RowOf G row (clusters row)) (lists : Coarse G row (clusters row) froms tos widths) (few : k ≤ 16)
     (h : ℕ) (in-table : h < 512) (cost-is : getD costs h 0 ≡ partCost (G .costs) row h) (some : (v : ℕ) × (v < vertices G) × (getD row v 0 ≡ h))
     (w : Work) (placed : Placed (w .table)) (R : SumsOf (G .costs) (through row (w .table)) k (w .sums)) where
+  whole : length row ≡ vertices G
+  whole = row-of .whole
+
   parts : List ℕ
   parts = through row (w .table)
 
@@ -136,8 +141,15 @@ module _ (G : Graph) (P : Proper G) (k bound : ℕ) (row costs : List ℕ) (whol
   tried-better true t best c =
       let (n, l) = c refl in rw (less-gain (pull G row parts h best) (pull G row parts h t) (pull G row parts h (partOf row parts h)), allows-sums t n l)
 
-  choice-counted : choiceAt (net (G .starts) (G .ends) (G .widths)) row costs bound h w ≡ target G (w .sums .count) bound row parts h
-  unfolding choiceAt choiceOf backOf target goesBack lowestNext aboveBefore pull parts own cost
+  -- the lists say what the graph says
+  choice-graph : choiceAt froms tos widths costs bound h w ≡ choiceOf (pull G row parts h) (w .sums) own cost bound (lowestNext G (w .sums .count) row parts h) (aboveBefore G row parts h)
+  unfolding choiceAt parts own cost
+  choice-graph =
+      choice-ext _ (pull G row parts h) (w .sums) own cost bound (λ u _. pull-lists lists (P .formed) row-of (P .wide) (w .table) h u) _ _ own-low (omega (arith, R .counts))
+      ∙ rw (low-lists lists (P .formed) row-of (P .wide) (w .table) h (w .sums .count), high-lists lists (P .formed) row-of (P .wide) (w .table) h)
+
+  choice-counted : choiceOf (pull G row parts h) (w .sums) own cost bound (lowestNext G (w .sums .count) row parts h) (aboveBefore G row parts h) ≡ target G (w .sums .count) bound row parts h
+  unfolding choiceOf backOf target goesBack
   choice-counted =
       sym
       (rw own-is
@@ -158,14 +170,14 @@ module _ (G : Graph) (P : Proper G) (k bound : ℕ) (row costs : List ℕ) (whol
       high = aboveBefore G row parts h
 
   -- the code's choice is the definitions'
-  choice-target : choiceAt (net (G .starts) (G .ends) (G .widths)) row costs bound h w ≡ target G k bound row parts h
-  choice-target = choice-counted ∙ ap (λ (x : ℕ). target G x bound row parts h) (R .counts)
+  choice-target : choiceAt froms tos widths costs bound h w ≡ target G k bound row parts h
+  choice-target = choice-graph ∙ choice-counted ∙ ap (λ (x : ℕ). target G x bound row parts h) (R .counts)
 
-  choice-low : choiceAt (net (G .starts) (G .ends) (G .widths)) row costs bound h w < 16
+  choice-low : choiceAt froms tos widths costs bound h w < 16
   unfolding choiceAt own
   choice-low = choice-below _ _ (w .sums) own (getD costs h 0) bound (λ u l. refl) _ _ own-low (omega (arith, R .counts))
 
-  pub worked-visited : Follows G k row (worked (net (G .starts) (G .ends) (G .widths)) row costs bound h w) (visited G k bound row h (tallyOf (through row (w .table)) (w .moves)))
+  pub worked-visited : Follows G k row (worked froms tos widths costs bound h w) (visited G k bound row h (tallyOf (through row (w .table)) (w .moves)))
   unfolding worked movedBy visited settledAt parts own
   worked-visited =
       rw (choice-target, own-is)
@@ -187,24 +199,25 @@ module _ (G : Graph) (P : Proper G) (k bound : ℕ) (row costs : List ℕ) (whol
       low : t < 16
       low = rw (← choice-target) choice-low
 
--- a row with a vertex in each of its clusters, and the clusters' costs
-pub record Priced (G : Graph) (row costs : List ℕ) : Type 0 where
-  pub whole : length row ≡ vertices G
+-- what the code has of a rung: a row with a vertex in each of its clusters, the clusters' costs, and the lists of their edges
+pub record Drawn (G : Graph) (row costs froms tos widths : List ℕ) : Type 0 where
+  pub row-of : RowOf G row (clusters row)
   pub few : clusters row ≤ 512
   pub onto : (c : ℕ) → c < clusters row → (v : ℕ) × (v < vertices G) × (getD row v 0 ≡ c)
   pub cost : (c : ℕ) → c < clusters row → getD costs c 0 ≡ partCost (G .costs) row c
+  pub lists : Coarse G row (clusters row) froms tos widths
 
 -- the code's pass is the definitions'
-module _ (G : Graph) (P : Proper G) (k bound : ℕ) (few : k ≤ 16) (row costs : List ℕ) (R : Priced G row costs) where
+module _ (G : Graph) (P : Proper G) (k bound : ℕ) (few : k ≤ 16) (row costs froms tos widths : List ℕ) (R : Drawn G row costs froms tos widths) where
   turns-visited : (i : ℕ) → i ≤ clusters row → (w : Work) (s : Tally) → Follows G k row w s
-      → Follows G k row (turns i (worked (net (G .starts) (G .ends) (G .widths)) row costs bound) w) (turns i (visited G k bound row) s)
+      → Follows G k row (turns i (worked froms tos widths costs bound) w) (turns i (visited G k bound row) s)
   unfolding turns
   turns-visited zero l w s f = f
   turns-visited (suc i) l w s f =
       let g = turns-visited i (omega arith) w s f in
-      rw (← g .is) (worked-visited G P k bound row costs (R .whole) few i (omega (arith, R .few)) (R .cost i l) (R .onto i l) _ (g .placed) (g .sums))
+      rw (← g .is) (worked-visited G P k bound row costs froms tos widths (R .row-of) (R .lists) few i (omega (arith, R .few)) (R .cost i l) (R .onto i l) _ (g .placed) (g .sums))
 
   pub pass-follows : (w : Work) (s : Tally) → Follows G k row w s
-      → Follows G k row (turns (clusters row) (worked (net (G .starts) (G .ends) (G .widths)) row costs bound) w) (passOf G k bound row s)
+      → Follows G k row (turns (clusters row) (worked froms tos widths costs bound) w) (passOf G k bound row s)
   unfolding passOf
   pass-follows w s f = turns-visited (clusters row) (omega arith) w s f

@@ -2,7 +2,7 @@
 use Prim.Native.Nat.{ℕ, zero, suc, _+_, _-_, _*_, _≤_, _<_, _^_}
 use mathlib.Core.Path.{_≡_, refl, sym, ap, subst, _∙_}
 use mathlib.Core.List.{List, _++_}
-use native.Mathlib.Nat.{le-mul-of-pos-right}
+use native.Mathlib.Nat.{mul-le-mul-right}
 use native.Mathlib.Omega.{arith}
 use lib.ListN.{length, getD, take, drop}
 use lib.Seq.{take-at}
@@ -11,17 +11,21 @@ use Rattle.folds.proofs.Sums.{sumTo-le}
 use Rattle.folds.proofs.Lists.{row-in}
 use Rattle.graph.specs.Graph.{Graph, vertices, edges, seen, crossing, cut, cutOf, Proper}
 use Rattle.graph.specs.Links.{Joins}
-use Rattle.graph.specs.Rows.{Hierarchy}
+use Rattle.graph.specs.Rows.{Hierarchy, rowsIn}
+use Rattle.graph.specs.Coarse.{Stored}
 use Rattle.graph.proofs.Edges.{crossing-le}
+use Rattle.counts.specs.Totals.{Keyed}
 use Rattle.counts.proofs.Totals.{proper-joins}
 use Rattle.moves.specs.Entries.{stateOf, Good}
 use Rattle.moves.specs.Pass.{Tally, tallyOf, refinedOn, refinedBelow, refined}
 use Rattle.moves.proofs.Entries.{nested, good-down}
 use Rattle.moves.proofs.Own.{refined-steps, steps-good, steps-fall}
 use Rattle.moves.proofs.Claims.{refined-good}
-use Rattle.refine.specs.Rung.{Ready}
+use Rattle.part_sums.specs.declared.PartSums.{PartSums}
+use Rattle.pass.specs.declared.Progress.{Progress}
+use Rattle.part_sums.specs.Sums.{SumsOf}
+use Rattle.refine.specs.Rung.{Ready, RefinedRow}
 use Rattle.refine.specs.Down.{Descends, Refined}
-use Rattle.graph.specs.Rows.{rowsIn}
 
 -- the rungs below r are still to come, and make R of the table
 pub record Descent (G : Graph) (k bound : ℕ) (rows : ℕ → List ℕ) (top : ℕ) (R : Tally) (r : ℕ) (parts : List ℕ) (moves : ℕ) : Type 0 where
@@ -60,12 +64,12 @@ module _ (G : Graph) (P : Proper G) (k bound : ℕ) (few : k ≤ 16) (rows : ℕ
       subst (λ (x : ℕ). Good G k bound rows top (stateOf x parts)) d (good-down G P k bound rows top (nested H) (stateOf (suc r) parts) r refl I)
 
   module _ (R : Tally) (r : ℕ) (parts : List ℕ) (moves : ℕ) (x : Descent G k bound rows top R r parts moves) where
-    pub descent-ready : 0 < r → Ready G k bound (rows (r - 1)) parts moves
+    descent-ready : 0 < r → Ready G k bound (rows (r - 1)) parts moves
     descent-ready l =
         let q : r - 1 ≤ top = omega (arith, x .within) in
         record { proper = P; row-of = H .row (r - 1) q; onto = H .onto (r - 1) q; good = good-alone (x .good); few = few; room = x .room }
 
-    pub descent-turn : (parts′ : List ℕ) (moves′ : ℕ) → 0 < r → tallyOf parts′ moves′ ≡ refinedOn G k bound (rows (r - 1)) (tallyOf parts moves) → Descent G k bound rows top R (r - 1) parts′ moves′
+    descent-turn : (parts′ : List ℕ) (moves′ : ℕ) → 0 < r → tallyOf parts′ moves′ ≡ refinedOn G k bound (rows (r - 1)) (tallyOf parts moves) → Descent G k bound rows top R (r - 1) parts′ moves′
     unfolding refinedBelow
     descent-turn parts′ moves′ l e =
         let steps = refined-steps G P k bound rows top (nested H) (r - 1) (tallyOf parts moves) in
@@ -81,16 +85,40 @@ module _ (G : Graph) (P : Proper G) (k bound : ℕ) (few : k ≤ 16) (rows : ℕ
           room = rw (p, m) (omega (arith, fall, x .room));
         }
 
+    -- the same with the record of sums, whose count is k
+    pub descent-at : {S : PartSums} → 0 < r → SumsOf (G .costs) parts k S → Ready G (S .count) bound (rows (r - 1)) parts moves × SumsOf (G .costs) parts (S .count) S
+    descent-at {S} l s =
+        (subst (λ (x : ℕ). Ready G x bound (rows (r - 1)) parts moves) (sym (s .counts)) (descent-ready l), subst (λ (x : ℕ). SumsOf (G .costs) parts x S) (sym (s .counts)) s)
+
+    pub descent-next : {S : PartSums} (parts′ : List ℕ) (q : Progress) → 0 < r → SumsOf (G .costs) parts k S → RefinedRow G (S .count) bound (rows (r - 1)) parts moves parts′ q
+        → Descent G k bound rows top R (r - 1) parts′ (q .moves) × SumsOf (G .costs) parts′ k (q .sums)
+    descent-next parts′ q l s w = let y = rw (s .counts) at w in (descent-turn parts′ (q .moves) l (y .is), y .sums)
+
     pub descent-end : r ≡ 0 → tallyOf parts moves ≡ R
     unfolding refinedBelow
     descent-end e = rw e at (x .rest)
 
--- row r - 1 of the ladder is in it
-pub row-held : (r rung n l : ℕ) → 0 < r → r ≤ suc rung → suc rung * n ≤ l → (r - 1) * n + n ≤ l
-row-held r rung n l a b h = omega (arith, row-in (r - 1) (suc rung) n (omega arith))
+-- the rows and the lists up to a lower rung
+pub rows-held : (r rung n l : ℕ) → r ≤ rung → suc rung * n ≤ l → suc r * n ≤ l
+rows-held r rung n l a h = let q : suc r ≤ suc rung = omega arith in omega (arith, mul-le-mul-right n q)
 
-pub rung-held : (rung n l : ℕ) → 0 < n → suc rung * n ≤ l → rung + 1 ≤ l
-rung-held rung n l a h = omega (arith, le-mul-of-pos-right (suc rung) a)
+pub lower-stored : {G : Graph} {rows : ℕ → List ℕ} {top m : ℕ} {froms tos widths sizes : List ℕ} (r : ℕ) → r ≤ top → Stored G rows top m froms tos widths sizes
+    → Stored G rows r m froms tos widths sizes
+lower-stored {top = top} {m = m} r l S =
+    record {
+      from-room = rows-held r top m _ l (S .from-room);
+      to-room = rows-held r top m _ l (S .to-room);
+      width-room = rows-held r top m _ l (S .width-room);
+      few = λ i h. S .few i (omega arith);
+      is = λ i h. S .is i (omega arith);
+    }
+
+-- the lists of the highest row are in them
+pub stored-held : {G : Graph} {rows : ℕ → List ℕ} {r m : ℕ} {froms tos widths sizes : List ℕ} → Stored G rows r m froms tos widths sizes
+    → (r * m + getD sizes r 0 ≤ length froms) × (r * m + getD sizes r 0 ≤ length tos) × (r * m + getD sizes r 0 ≤ length widths)
+stored-held {r = r} {m = m} S =
+    let q : r * m + m ≤ suc r * m = row-in r (suc r) m (omega arith) in
+    let f = S .few r (omega arith) in (omega (arith, S .from-room), omega (arith, S .to-room), omega (arith, S .width-room))
 
 pub row-part : (l : List ℕ) (a n : ℕ) → take (a + n - a) (drop a l) ≡ part l a n
 unfolding part
@@ -120,3 +148,7 @@ module _ {G : Graph} {k bound : ℕ} {rows : List ℕ} {rung : ℕ} (table : Lis
         moves-is = ap (λ (t : Tally). t .moves) e;
         cut-is = h ∙ ap (cutOf G) (front ∙ ap (λ (t : Tally). t .parts) e);
       }
+
+-- the parts of a table that is to be refined
+pub descends-keyed : {G : Graph} {k bound : ℕ} {rows : List ℕ} {rung : ℕ} {parts : List ℕ} → Descends G k bound rows rung parts → Keyed parts (G .costs) 16
+descends-keyed D = record { same = D .good .whole; few = D .proper .few; low = λ v l. omega (arith, D .good .below v l, D .few) }

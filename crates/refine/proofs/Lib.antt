@@ -1,6 +1,5 @@
-pub mod Sums
-pub mod Work
 pub mod Tables
+pub mod Lists
 pub mod Bridge
 pub mod Rung
 pub mod Down

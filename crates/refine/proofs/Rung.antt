@@ -1,31 +1,32 @@
 -- Passes until one moves nothing, as the code repeats them.
 use Prim.Native.Nat.{ℕ, zero, suc, _+_, _≤_, _<_, _^_}
-use mathlib.Core.Path.{_≡_, refl, sym, ap, subst, _∙_}
+use mathlib.Core.Path.{_≡_, refl, sym, ap, _∙_}
 use mathlib.Core.List.{List}
 use native.Mathlib.Nat.{not-suc-le-zero}
 use native.Mathlib.Omega.{arith}
 use lib.ListN.{length, getD}
 use borrow.Author.Tests.{eq-eqb, ne-eqb}
 use Rattle.folds.specs.Fold.{turns}
-use Rattle.graph.specs.Graph.{Graph, vertices, via, through, Proper}
-use Rattle.graph.specs.Links.{Joins, Linked}
+use Rattle.graph.specs.Graph.{Graph, vertices, through, Proper}
+use Rattle.graph.specs.Coarse.{Coarse}
 use Rattle.graph.specs.Rows.{clusters}
 use Rattle.graph.proofs.Edges.{length-through}
 use Rattle.counts.specs.Totals.{Keyed, Totals}
-use Rattle.counts.proofs.Totals.{totals-cost, clusters-few, proper-joins}
+use Rattle.counts.proofs.Totals.{totals-cost, clusters-few}
 use Rattle.graph.specs.Graph.{cutOf}
 use Rattle.moves.specs.Entries.{stateOf, Good}
 use Rattle.moves.specs.Pass.{Tally, tallyOf, passOf, measure, passes, repeated, refinedOn}
 use Rattle.moves.proofs.Entries.{alone}
 use Rattle.moves.proofs.Own.{pass-steps, pass-still, pass-falls, steps-good, steps-fall}
-use Rattle.visit.specs.Visit.{Placed}
-use Rattle.refine.specs.declared.PartSums.{PartSums}
-use Rattle.refine.specs.Sums.{SumsOf}
-use Rattle.refine.specs.Work.{Indexed, Work, net, worked}
+use Rattle.visit.specs.Visit.{Placed, Listed}
+use Rattle.part_sums.specs.declared.PartSums.{PartSums}
+use Rattle.pass.specs.declared.Progress.{Progress}
+use Rattle.part_sums.specs.Sums.{SumsOf}
+use Rattle.pass.specs.Work.{Work, worked}
 use Rattle.refine.specs.Tables.{Shared, Inherits}
-use Rattle.refine.specs.Rung.{Ready, Settled}
+use Rattle.refine.specs.Rung.{Ready, Settled, RefinedRow}
 use Rattle.refine.proofs.Tables.{inherits-through}
-use Rattle.refine.proofs.Bridge.{Follows, Priced, pass-follows}
+use Rattle.refine.proofs.Bridge.{Follows, Drawn, pass-follows}
 
 -- some number of passes, which is enough, makes R of s
 pub record Going (G : Graph) (k bound : ℕ) (row : List ℕ) (s R : Tally) : Type 0 where
@@ -41,7 +42,7 @@ pub record Stands (G : Graph) (k bound : ℕ) (row : List ℕ) (R : Tally) (w : 
   pub going : Going G k bound row (tallyOf (through row (w .table)) (w .moves)) R
   pub room : w .moves + cutOf G (through row (w .table)) < 2 ^ 32
 
-module _ (G : Graph) (P : Proper G) (k bound : ℕ) (few : k ≤ 16) (row costs : List ℕ) (C : Priced G row costs) where
+module _ (G : Graph) (P : Proper G) (k bound : ℕ) (few : k ≤ 16) (row costs froms tos widths : List ℕ) (C : Drawn G row costs froms tos widths) where
   going-turn : (s R : Tally) → Good G k bound (λ r. row) 0 (stateOf 0 (s .parts)) → (passOf G k bound row s .moves ≡ s .moves → ⊥)
       → Going G k bound row s R → Going G k bound row (passOf G k bound row s) R
   unfolding repeated
@@ -52,7 +53,7 @@ module _ (G : Graph) (P : Proper G) (k bound : ℕ) (few : k ≤ 16) (row costs 
       go (suc left) l e =
           record {
             left = left;
-            enough = omega (arith, pass-falls G P k bound (λ r. row) 0 (alone row (C .whole)) 0 s I n);
+            enough = omega (arith, pass-falls G P k bound (λ r. row) 0 (alone row (C .row-of .whole)) 0 s I n);
             comes = rw (ne-eqb (passOf G k bound row s .moves) (s .moves) n) at e;
           }
 
@@ -62,16 +63,16 @@ module _ (G : Graph) (P : Proper G) (k bound : ℕ) (few : k ≤ 16) (row costs 
     where
       go : (left : ℕ) → measure G (s .parts) < left → repeated G k bound row left s ≡ R → passOf G k bound row s ≡ R
       go zero l e = absurd (not-suc-le-zero l)
-      go (suc left) l e = pass-still G P k bound (λ r. row) 0 (alone row (C .whole)) 0 s q ∙ (rw (eq-eqb (passOf G k bound row s .moves) (s .moves) q) at e)
+      go (suc left) l e = pass-still G P k bound (λ r. row) 0 (alone row (C .row-of .whole)) 0 s q ∙ (rw (eq-eqb (passOf G k bound row s .moves) (s .moves) q) at e)
 
   module _ (R : Tally) (w w′ : Work) (x : Stands G k bound row R w) (g : ℕ) (eg : g ≡ clusters row)
-      (d : w′ ≡ turns g (worked (net (G .starts) (G .ends) (G .widths)) row costs bound) w) where
+      (d : w′ ≡ turns g (worked froms tos widths costs bound) w) where
     s : Tally
     s = tallyOf (through row (w .table)) (w .moves)
 
     follows : Follows G k row w′ (passOf G k bound row s)
     unfolding s
-    follows = rw (d, eg) (pass-follows G P k bound few row costs C w s (record { is = refl; sums = x .sums; placed = x .placed }))
+    follows = rw (d, eg) (pass-follows G P k bound few row costs froms tos widths C w s (record { is = refl; sums = x .sums; placed = x .placed }))
 
     moves-as : w′ .moves ≡ passOf G k bound row s .moves
     moves-as = ap (λ (t : Tally). t .moves) (follows .is)
@@ -82,7 +83,7 @@ module _ (G : Graph) (P : Proper G) (k bound : ℕ) (few : k ≤ 16) (row costs 
     -- a pass that moved something: on the way, with a smaller measure
     pub stands-fall : (w′ .moves ≡ w .moves → ⊥) → measure G (through row (w′ .table)) < measure G (through row (w .table))
     unfolding s
-    stands-fall n = rw parts-as (pass-falls G P k bound (λ r. row) 0 (alone row (C .whole)) 0 s (x .good) (λ e. n (moves-as ∙ e)))
+    stands-fall n = rw parts-as (pass-falls G P k bound (λ r. row) 0 (alone row (C .row-of .whole)) 0 s (x .good) (λ e. n (moves-as ∙ e)))
 
     pub stands-turn : (w′ .moves ≡ w .moves → ⊥) → Stands G k bound row R w′
     unfolding s
@@ -90,16 +91,16 @@ module _ (G : Graph) (P : Proper G) (k bound : ℕ) (few : k ≤ 16) (row costs 
         record {
           sums = follows .sums;
           placed = follows .placed;
-          good = rw parts-as (steps-good G P k bound (λ r. row) 0 (alone row (C .whole)) {s = s} (x .good) (pass-steps G P k bound (λ r. row) 0 (alone row (C .whole)) 0 s));
+          good = rw parts-as (steps-good G P k bound (λ r. row) 0 (alone row (C .row-of .whole)) {s = s} (x .good) (pass-steps G P k bound (λ r. row) 0 (alone row (C .row-of .whole)) 0 s));
           going = rw (follows .is) (going-turn s R (x .good) (λ e. n (moves-as ∙ e)) (x .going));
           room = rw (moves-as, parts-as)
-              (omega (arith, x .room, steps-fall G P k bound (λ r. row) 0 (alone row (C .whole)) {s = s} (x .good) (pass-steps G P k bound (λ r. row) 0 (alone row (C .whole)) 0 s)));
+              (omega (arith, x .room, steps-fall G P k bound (λ r. row) 0 (alone row (C .row-of .whole)) {s = s} (x .good) (pass-steps G P k bound (λ r. row) 0 (alone row (C .row-of .whole)) 0 s)));
         }
 
     -- a pass that moved nothing: there
-    pub stands-end : w′ .moves ≡ w .moves → tallyOf (through row (w′ .table)) (w .moves) ≡ R
+    pub stands-end : w′ .moves ≡ w .moves → (tallyOf (through row (w′ .table)) (w′ .moves) ≡ R) × SumsOf (G .costs) (through row (w′ .table)) k (w′ .sums)
     unfolding s
-    stands-end e = ap (λ (m : ℕ). tallyOf (through row (w′ .table)) m) (sym e) ∙ follows .is ∙ going-end s R (sym moves-as ∙ e) (x .going)
+    stands-end e = (follows .is ∙ going-end s R (sym moves-as ∙ e) (x .going), follows .sums)
 
 -- from what the work on a rung asks for
 module _ {G : Graph} {k bound : ℕ} {row parts : List ℕ} {moves : ℕ} (A : Ready G k bound row parts moves) where
@@ -109,14 +110,23 @@ module _ {G : Graph} {k bound : ℕ} {row parts : List ℕ} {moves : ℕ} (A : R
   pub ready-keyed : Keyed row (G .costs) 512
   ready-keyed = record { same = A .row-of .whole; few = A .proper .few; low = λ v l. omega (arith, A .row-of .below v l, ready-few) }
 
-  pub ready-priced : {sums : List ℕ} → Totals row (G .costs) 512 (length (G .costs)) sums → Priced G row sums
-  ready-priced s = record { whole = A .row-of .whole; few = ready-few; onto = A .onto; cost = λ c l. totals-cost row (G .costs) s c (omega (arith, ready-few)) }
+  pub ready-drawn : {sums froms tos widths : List ℕ} → Coarse G row (clusters row) froms tos widths → Totals row (G .costs) 512 (length (G .costs)) sums → Drawn G row sums froms tos widths
+  ready-drawn C s =
+      record { row-of = A .row-of; few = ready-few; onto = A .onto; cost = λ c l. totals-cost row (G .costs) s c (omega (arith, ready-few)); lists = C }
+
+  -- the lists name clusters below 512
+  pub ready-listed : {froms tos widths : List ℕ} → Coarse G row (clusters row) froms tos widths → Listed froms tos widths
+  ready-listed C =
+      record {
+        from = record { few = C .few; low = λ i l. omega (arith, C .from-in i l, ready-few) };
+        to = record { few = omega (arith, C .few, C .same-ends); low = λ i l. omega (arith, C .to-in i (omega (arith, C .same-ends)), ready-few) };
+        same-ends = C .same-ends;
+        same-widths = C .same-widths;
+        narrow = C .narrow;
+      }
 
   low : (v : ℕ) → v < length row → getD row v 0 < 512
   low v l = omega (arith, A .row-of .below v (omega (arith, A .row-of .whole)), ready-few)
-
-  pub ready-parts : Keyed parts (G .costs) 16
-  ready-parts = record { same = A .good .whole; few = A .proper .few; low = λ v l. omega (arith, A .good .below v l, A .few) }
 
   pub ready-shared : Shared row parts
   ready-shared =
@@ -127,33 +137,21 @@ module _ {G : Graph} {k bound : ℕ} {row parts : List ℕ} {moves : ℕ} (A : R
         shared = λ a b la lb e. A .good .shared a b (omega (arith, A .row-of .whole)) (omega (arith, A .row-of .whole)) e;
       }
 
-  pub ready-joins : Joins row (G .starts) (G .ends)
-  ready-joins = proper-joins (A .proper) row (A .row-of .whole) low
-
-  pub ready-indexed : {head next head-in next-in : List ℕ} → Linked (via row (G .starts)) (length (G .starts)) head next → Linked (via row (G .ends)) (length (G .ends)) head-in next-in
-      → Indexed row (G .starts) (G .ends) (G .widths) head next head-in next-in
-  ready-indexed a b = record { joins = ready-joins; same = A .proper .formed .same-widths; out = a; into = b }
-
 pub ready-stands : {G : Graph} {k bound : ℕ} {row : List ℕ} (w : Work) → Ready G k bound row (through row (w .table)) (w .moves)
     → SumsOf (G .costs) (through row (w .table)) k (w .sums) → Placed (w .table) → Stands G k bound row (refinedOn G k bound row (tallyOf (through row (w .table)) (w .moves))) w
 unfolding refinedOn passes
 ready-stands {G} {row = row} w A r p = record { sums = r; placed = p; good = A .good; going = record { left = passes G (through row (w .table)); enough = omega arith; comes = refl }; room = A .room }
 
 -- the work on a rung as a whole: into the clusters' table, and back
-module _ {G : Graph} {k bound : ℕ} {row parts : List ℕ} {moves : ℕ} (A : Ready G k bound row parts moves) (S : PartSums) (table : List ℕ)
-    (I : Inherits row parts (length row) table) (R : SumsOf (G .costs) parts k S) where
+module _ {G : Graph} {k bound : ℕ} {row parts : List ℕ} {moves : ℕ} (A : Ready G k bound row parts moves) (table : List ℕ) (I : Inherits row parts (length row) table) where
   as-parts : through row table ≡ parts
   as-parts = inherits-through row parts table (A .good .whole ∙ sym (A .row-of .whole)) I
 
-  pub ready-sums : SumsOf (G .costs) (through row table) (S .count) S × Ready G (S .count) bound row (through row table) moves
-  ready-sums =
-      rw as-parts
-      (subst (λ (x : ℕ). SumsOf (G .costs) parts x S) (sym (R .counts)) R, subst (λ (x : ℕ). Ready G x bound row parts moves) (sym (R .counts)) A)
+  pub ready-sums : {S : PartSums} → SumsOf (G .costs) parts k S → SumsOf (G .costs) (through row table) k S × Ready G k bound row (through row table) moves
+  ready-sums R = rw as-parts (R, A)
 
-  pub ready-settled : {table′ l : List ℕ} {moves′ : ℕ} → Settled G (S .count) bound row table moves table′ moves′ → l ≡ through row table′
-      → tallyOf l moves′ ≡ refinedOn G k bound row (tallyOf parts moves)
-  ready-settled x e =
-      rw e (x .is) ∙ ap (λ (t : List ℕ). refinedOn G (S .count) bound row (tallyOf t moves)) as-parts ∙ ap (λ (j : ℕ). refinedOn G j bound row (tallyOf parts moves)) (R .counts)
+  pub ready-settled : {table′ l : List ℕ} {r : Progress} → Settled G k bound row table moves table′ r → l ≡ through row table′ → RefinedRow G k bound row parts moves l r
+  ready-settled x e = record { is = rw e (x .is) ∙ ap (λ (t : List ℕ). refinedOn G k bound row (tallyOf t moves)) as-parts; sums = rw e (x .sums) }
 
   pub ready-length : (table′ : List ℕ) {l : List ℕ} → l ≡ through row table′ → length l ≡ length parts
   ready-length table′ e = ap length e ∙ length-through row table′ ∙ A .row-of .whole ∙ sym (A .good .whole)

@@ -11,7 +11,6 @@ use Rattle.folds.proofs.Cases.{either, eq-or-ne, last-or}
 use Rattle.folds.proofs.Lists.{listed}
 use Rattle.folds.proofs.Slices.{filled-all}
 use Rattle.graph.specs.Graph.{through}
-use Rattle.graph.specs.Rows.{clusters}
 use Rattle.visit.specs.Visit.{Placed}
 use Rattle.refine.specs.Tables.{Shared, Inherits}
 

@@ -1,5 +1,3 @@
-pub mod Sums
-pub mod Work
 pub mod Tables
 pub mod Rung
 pub mod Down

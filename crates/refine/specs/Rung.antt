@@ -8,6 +8,8 @@ use Rattle.graph.specs.Rows.{clusters}
 use Rattle.moves.specs.Entries.{stateOf, Good}
 use Rattle.moves.specs.Pass.{tallyOf, refinedOn}
 use Rattle.visit.specs.Visit.{Placed}
+use Rattle.pass.specs.declared.Progress.{Progress}
+use Rattle.part_sums.specs.Sums.{SumsOf}
 
 -- a row with no empty cluster, and a table that is good on it; the moves so far leave room for those to come, each of which lowers the cut
 pub record Ready (G : Graph) (k bound : ℕ) (row parts : List ℕ) (moves : ℕ) : Type 0 where
@@ -18,7 +20,13 @@ pub record Ready (G : Graph) (k bound : ℕ) (row parts : List ℕ) (moves : ℕ
   pub few : k ≤ 16
   pub room : moves + cutOf G parts < 2 ^ 32
 
--- the clusters' table and the moves after the passes
-pub record Settled (G : Graph) (k bound : ℕ) (row table : List ℕ) (moves : ℕ) (table′ : List ℕ) (moves′ : ℕ) : Type 0 where
-  pub is : tallyOf (through row table′) moves′ ≡ refinedOn G k bound row (tallyOf (through row table) moves)
+-- the clusters' table, the sums and the moves after the passes
+pub record Settled (G : Graph) (k bound : ℕ) (row table : List ℕ) (moves : ℕ) (table′ : List ℕ) (r : Progress) : Type 0 where
+  pub is : tallyOf (through row table′) (r .moves) ≡ refinedOn G k bound row (tallyOf (through row table) moves)
+  pub sums : SumsOf (G .costs) (through row table′) k (r .sums)
   pub placed : Placed table′
+
+-- the vertices' table, the sums and the moves after the work on a row
+pub record RefinedRow (G : Graph) (k bound : ℕ) (row parts : List ℕ) (moves : ℕ) (parts′ : List ℕ) (r : Progress) : Type 0 where
+  pub is : tallyOf parts′ (r .moves) ≡ refinedOn G k bound row (tallyOf parts moves)
+  pub sums : SumsOf (G .costs) parts′ k (r .sums)

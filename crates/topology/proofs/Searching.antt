@@ -16,8 +16,8 @@ use Rattle.folds.proofs.Sums.{with, with-same, with-other, countTo-le, countTo-
 use Rattle.folds.proofs.Lists.{getD-zeros, length-zeros, getD-past}
 use Rattle.graph.specs.Walk.{Walk, one, more}
 use Rattle.graph.specs.Graph.{Arcs, Edge, Inside}
-use Rattle.graph.specs.Links.{Linked}
-use Rattle.graph.proofs.Links.{On}
+use Rattle.graph.specs.Links.{Linked, leave}
+use Rattle.graph.proofs.Links.{On, leave-at, leave-from}
 use Rattle.graph.proofs.Edges.{arc-edge, edge-arc, edge-other}
 use Rattle.topology.specs.Reach.{onCycle}
 use Rattle.topology.specs.Search.{marked, Queued, Spread, Entered}
@@ -87,12 +87,12 @@ module _ {A : Arcs} {v u b n : ℕ} {marks queue : List ℕ} (Q : Queued A v mar
       found x (i, h, e) = (i, omega arith, getD-set-other queue n i b 0 (λ q. omega arith) ∙ e)
 
 -- the edges from u, along their links
-module _ {A : Arcs} {v u m n : ℕ} {head next marks queue : List ℕ} (L : Linked (A .from) m head next) where
+module _ {A : Arcs} {v u m n : ℕ} {head next marks queue : List ℕ} (L : Linked (leave A) m head next) where
   pub spread-none : Queued A v marks queue n → u < 512 → Spread A v u (getD head u 0) marks queue n marks queue n
   spread-none Q l =
-      record { now = Q; more = omega arith; kept = λ i _. refl; grown = λ x t. t; done = λ i h e _. absurd (L .heads u l .skips i (omega arith) h e) }
+      record { now = Q; more = omega arith; kept = λ i _. refl; grown = λ x t. t; done = λ i h e ne. absurd (L .heads u l .skips i (omega arith) h (leave-at A i e ne)) }
 
-  pub spread-turn : {j b n′ n″ : ℕ} {marks′ queue′ marks″ queue″ : List ℕ} → Spread A v u j marks queue n marks′ queue′ n′ → On (A .from) m u j → j < m
+  pub spread-turn : {j b n′ n″ : ℕ} {marks′ queue′ marks″ queue″ : List ℕ} → Spread A v u j marks queue n marks′ queue′ n′ → On (leave A) m u j → j < m
       → b ≡ A .to j → Entered A v u b marks′ queue′ n′ marks″ queue″ n″ → Spread A v u (getD next j 0) marks queue n marks″ queue″ n″
   spread-turn {j} {b} S o l eb E =
       record {
@@ -103,15 +103,16 @@ module _ {A : Arcs} {v u m n : ℕ} {head next marks queue : List ℕ} (L : Link
         done = λ i h e ne.
             either (eq-or-ne i j) (λ q. rw (q, ← eb) (E .done (λ z. ne (ap (A .to) q ∙ sym eb ∙ z))))
             (λ d. by (ltb i j) (λ t. E .grown _ (S .done i (ltb-true i j t) e ne))
-              (λ t. absurd ((rw (o .at l) at (L .nexts j l)) .skips i (omega (arith, ltb-false i j t)) h e)));
+              (λ t. absurd ((rw (o .at l) at (L .nexts j l)) .skips i (omega (arith, ltb-false i j t)) h (leave-at A i e ne))));
       }
 
   -- a walk goes to what an edge from u goes to
   pub spread-walk : {j b : ℕ} {marks′ queue′ : List ℕ} {n′ : ℕ} → ((u ≡ v) ⊎ (marked marks u ≡ true)) → Spread A v u j marks queue n marks′ queue′ n′
-      → m ≡ A .count → On (A .from) m u j → j < m → b ≡ A .to j → (b ≡ u → ⊥) → Walk (Edge A) v b
-  spread-walk {j} {b} at S em o l eb ne =
-      let e = arc-edge A j (omega arith) (λ q. ne (eb ∙ sym q ∙ o .at l)) in
-      let f : Edge A u b = rw (o .at l, ← eb) at e in
+      → m ≡ A .count → On (leave A) m u j → j < m → u < 512 → b ≡ A .to j → (b ≡ u → ⊥) → Walk (Edge A) v b
+  spread-walk {j} {b} at S em o l lu eb ne =
+      let near = leave-from A j (o .at l) lu in
+      let e = arc-edge A j (omega arith) (λ q. ne (eb ∙ sym q ∙ near)) in
+      let f : Edge A u b = rw (near, ← eb) at e in
       either at (λ q. one (rw q at f)) (λ t. more (S .now .walks u (S .grown u t)) f)
 
 -- the whole search: the edges of v and of the first i in the queue are done

@@ -3,10 +3,11 @@ use Prim.Native.Nat.{ℕ, _+_, _≤_, _<_}
 use mathlib.Core.Path.{_≡_}
 use mathlib.Core.Bool.{Bool, not, _&&_}
 use mathlib.Core.List.{List}
-use lib.Dec.{eqb}
+use lib.Dec.{eqb, ltb}
 use lib.ListN.{length, getD}
 use Rattle.folds.specs.Fold.{when, sumTo}
 use Rattle.graph.specs.Graph.{Arcs}
+use Rattle.pool.specs.Pool.{Kept}
 use Rattle.topology.specs.Order.{waits}
 
 -- 1 where edge j waits at v
@@ -26,22 +27,32 @@ pub record Counted (A : Arcs) (marks count : List ℕ) : Type 0 where
   pub tall : length count ≡ 512
   pub is : (v : ℕ) → v < 512 → getD count v 0 ≡ sumTo (A .count) (left A marks v)
 
--- the edges of u below j no longer count, and what became 0 is not below r
-pub record Released (A : Arcs) (u j : ℕ) (count : List ℕ) (lo : ℕ) (count′ : List ℕ) (r : ℕ) : Type 0 where
-  pub tall : length count′ ≡ 512
-  pub is : (v : ℕ) → v < 512 → getD count′ v 0 + sumTo j (gone A u v) ≡ getD count v 0
-  pub le : r ≤ lo
-  pub low : (v : ℕ) → v < r → getD count′ v 0 ≡ 0 → getD count v 0 ≡ 0
-
-pub record Across (A : Arcs) (j r : ℕ) : Type 0 where
-  pub is : r ≡ cross A j
-  pub low : r ≤ 1
-
 -- v is not taken, and waits for nothing
 unfoldable pub free : List ℕ → List ℕ → ℕ → Bool
 free marks count v = eqb (getD marks v 0) 0 && eqb (getD count v 0) 0
 
--- r is the mark lo, lowered to b where c is 0
-pub record Lowered (lo b c r : ℕ) : Type 0 where
-  pub le : r ≤ lo
-  pub at : c ≡ 0 → r ≤ b
+-- v is free, and below g
+unfoldable pub openAt : ℕ → List ℕ → List ℕ → ℕ → Bool
+openAt g marks count v = ltb v g && free marks count v
+
+-- what is taken waits for nothing
+abbrev pub Settled : List ℕ → List ℕ → Type 0
+Settled marks count = (v : ℕ) → v < 512 → (getD marks v 0 ≡ 0 → ⊥) → getD count v 0 ≡ 0
+
+-- an edge from u to b no longer counts, unless b is u, and the pool of the open ones follows
+pub record Passed (u b g : ℕ) (count pool count′ pool′ : List ℕ) : Type 0 where
+  pub tall : length count′ ≡ 512
+  pub wide : length pool′ ≡ 9
+  pub is : (v : ℕ) → v < 512 → getD count′ v 0 + when (eqb b v) (when (not (eqb u b)) 1) ≡ getD count v 0
+  pub keeps : (marks : List ℕ) → Settled marks count → Kept (openAt g marks count) pool → Kept (openAt g marks count′) pool′
+
+-- the edges of u below j no longer count, and the pool of the open ones follows
+pub record Released (A : Arcs) (u j g : ℕ) (count pool count′ pool′ : List ℕ) : Type 0 where
+  pub tall : length count′ ≡ 512
+  pub wide : length pool′ ≡ 9
+  pub is : (v : ℕ) → v < 512 → getD count′ v 0 + sumTo j (gone A u v) ≡ getD count v 0
+  pub keeps : (marks : List ℕ) → Settled marks count → Kept (openAt g marks count) pool → Kept (openAt g marks count′) pool′
+
+pub record Across (A : Arcs) (j r : ℕ) : Type 0 where
+  pub is : r ≡ cross A j
+  pub low : r ≤ 1

@@ -4,14 +4,16 @@ ghost use mathlib.Core.Bool.{true};
 ghost use mathlib.Core.Logic.{_⊎_};
 ghost use Prim.Native.Nat.{ℕ, _+_, _<_, _≤_};
 ghost use lib.ListN.{length, getD};
-ghost use Rattle.folds.specs.Fold.{sumTo, firstTo, over, zeros};
+ghost use Rattle.folds.specs.Fold.{pick, sumTo, over, zeros};
 ghost use Rattle.graph.specs.Walk.{Walk};
-ghost use Rattle.graph.specs.Graph.{via, arcs, Edge, Inside};
-ghost use Rattle.graph.specs.Links.{Linked, Joins};
+ghost use Rattle.graph.specs.Graph.{arcs, Edge, Inside};
+ghost use Rattle.graph.specs.Links.{Linked, Joins, leave};
 ghost use Rattle.topology.specs.Order.{orderOf};
 ghost use Rattle.topology.specs.Reach.{onCycle, lowestOnCycle};
 ghost use Rattle.topology.specs.Search.{marked, Queued, Spread, Entered};
-ghost use Rattle.topology.specs.Counts.{gone, Counted, Released, Across, free, Lowered};
+ghost use Rattle.topology.specs.Counts.{gone, Counted, Passed, Released, Across, openAt};
+ghost use Rattle.pool.specs.Pool.{Kept, putOf};
+ghost use lib.Dec.{eqb};
 
 // 1 where edge j goes from one cluster to another, else 0.
 fn across(row: &[u16], starts: &[u16], ends: &[u16], j: usize) -> u16
@@ -39,63 +41,90 @@ fn counts(row: &[u16], starts: &[u16], ends: &[u16], count: &mut [u16; 512])
     }
 }
 
-fn lower(lo: usize, b: usize, c: u16) -> usize
-    ensures { λ r. ⌜ Lowered lo b c r ⌝ }
+// Puts v into the pool where nothing is waited for.
+fn admit(c: u16, v: usize, pool: &mut [u64; 9])
+    requires { ⌜ (v < 512) × (length (now pool) ≡ 9) ⌝ }
+    ensures { λ _. ⌜ now (pool .exit) ≡ pick (eqb c 0) (putOf (now (pool .entry)) v) (now (pool .entry)) ⌝ }
 {
     if c == 0 {
-        if b < lo {
-            return b;
-        }
+        pool::put(pool, v);
     }
-    lo
 }
 
-// Takes the edges of u off the counts, and says below what nothing new is free.
-fn release(row: &[u16], starts: &[u16], ends: &[u16], head: &[u16; 512], next: &[u16; 1024], u: usize, count: &mut [u16; 512]) -> usize
+// The clusters below g that wait for nothing.
+fn gather(count: &[u16; 512], g: usize, pool: &mut [u64; 9])
+    requires { ⌜ g ≤ 512 ⌝ }
+    ensures { λ _. ⌜ Kept (openAt g (zeros 512) (now (count .entry))) (now (pool .exit)) ⌝ }
+{
+    *pool = [0; 9];
+    let mut i: usize = 0;
+    while i < g {
+        admit(count[i], i, pool);
+        i += 1;
+    }
+}
+
+// Takes an edge from u to b off the counts, unless b is u, and puts b into the pool where it was the last.
+fn pass(u: usize, b: usize, g: usize, count: &mut [u16; 512], pool: &mut [u64; 9])
+    requires { ⌜ b < 512 ⌝ }
+    requires { ⌜ ((u ≡ b → ⊥) → 0 < getD (now count) b 0) ⌝ }
+    requires { ⌜ (length (now count) ≡ 512) × (length (now pool) ≡ 9) ⌝ }
+    ensures { λ _. ⌜ Passed u b g (now (count .entry)) (now (pool .entry)) (now (count .exit)) (now (pool .exit)) ⌝ }
+{
+    if u == b {
+        return;
+    }
+    let x = count[b] - 1;
+    count[b] = x;
+    if b < g {
+        admit(x, b, pool);
+    }
+}
+
+// Takes the edges of u off the counts, and puts what then waits for nothing into the pool.
+fn release(row: &[u16], starts: &[u16], ends: &[u16], head: &[u16; 513], next: &[u16; 1024], u: usize, g: usize, count: &mut [u16; 512], pool: &mut [u64; 9])
     requires { ⌜ Joins (now row) (now starts) (now ends) ⌝ }
-    requires { ⌜ Linked (via (now row) (now starts)) (length (now starts)) (now head) (now next) ⌝ }
+    requires { ⌜ Linked (leave (arcs (now row) (now starts) (now ends))) (length (now starts)) (now head) (now next) ⌝ }
     requires { ⌜ u < 512 ⌝ }
-    requires { ⌜ (length (now count) ≡ 512) × ((v : ℕ) → v < 512 → sumTo (length (now starts)) (gone (arcs (now row) (now starts) (now ends)) u v) ≤ getD (now count) v 0) ⌝ }
-    ensures { λ r. ⌜ Released (arcs (now (row .entry)) (now (starts .entry)) (now (ends .entry))) u (length (now (starts .entry))) (now (count .entry)) u (now (count .exit)) r ⌝ }
+    requires { ⌜ (length (now count) ≡ 512) × (length (now pool) ≡ 9) ⌝ }
+    requires { ⌜ ((v : ℕ) → v < 512 → sumTo (length (now starts)) (gone (arcs (now row) (now starts) (now ends)) u v) ≤ getD (now count) v 0) ⌝ }
+    ensures { λ _. ⌜ Released (arcs (now (row .entry)) (now (starts .entry)) (now (ends .entry))) u (length (now (starts .entry))) g (now (count .entry)) (now (pool .entry)) (now (count .exit)) (now (pool .exit)) ⌝ }
 {
     let m = starts.len();
-    let mut lo = u;
     let mut j = folds::wide(head[u]);
     while j < m {
         let b = graph::cluster(row, ends, j);
-        let w = across(row, starts, ends, j);
-        let x = count[b] - w;
-        count[b] = x;
-        lo = lower(lo, b, x);
+        pass(u, b, g, count, pool);
         j = folds::wide(next[j]);
     }
-    lo
 }
 
-fn is_free(marks: &[u8; 512], count: &[u16; 512], v: usize) -> bool
-    requires { ⌜ v < 512 ⌝ }
-    ensures { λ r. ⌜ r ≡ free (now (marks .entry)) (now (count .entry)) v ⌝ }
+// Writes the clusters in topological order to the front of out, by the lists of the edges that leave each, and answers how many it took.
+pub fn order_by(row: &[u16], starts: &[u16], ends: &[u16], head: &[u16; 513], next: &[u16; 1024], g: usize, out: &mut [u16]) -> usize
+    requires { ⌜ Joins (now row) (now starts) (now ends) ⌝ }
+    requires { ⌜ Linked (leave (arcs (now row) (now starts) (now ends))) (length (now starts)) (now head) (now next) ⌝ }
+    requires { ⌜ (g ≤ 512) × (g ≤ length (now out)) ⌝ }
+    ensures { λ r. ⌜ r ≡ length (orderOf (arcs (now (row .entry)) (now (starts .entry)) (now (ends .entry))) g) ⌝ }
+    ensures { λ r. ⌜ now (out .exit) ≡ over (orderOf (arcs (now (row .entry)) (now (starts .entry)) (now (ends .entry))) g) (now (out .entry)) ⌝ }
 {
-    if marks[v] != 0 {
-        return false;
-    }
-    count[v] == 0
-}
-
-// The lowest cluster that is free, of those from lo on.
-fn scan(marks: &[u8; 512], count: &[u16; 512], lo: usize, g: usize) -> usize
-    requires { ⌜ (lo ≤ g) × (g ≤ 512) ⌝ }
-    requires { ⌜ firstTo lo (free (now marks) (now count)) ≡ lo ⌝ }
-    ensures { λ r. ⌜ r ≡ firstTo g (free (now (marks .entry)) (now (count .entry))) ⌝ }
-{
-    let mut v = lo;
-    while v < g {
-        if is_free(marks, count, v) {
-            return v;
+    let mut count = [0u16; 512];
+    let mut marks = [0u8; 512];
+    let mut pool = [0u64; 9];
+    counts(row, starts, ends, &mut count);
+    gather(&count, g, &mut pool);
+    let mut n: usize = 0;
+    while n < g {
+        let u = pool::lowest(&pool);
+        if u >= g {
+            return n;
         }
-        v += 1;
+        out[n] = u as u16;
+        marks[u] = 1;
+        pool::take(&mut pool, u);
+        release(row, starts, ends, head, next, u, g, &mut count, &mut pool);
+        n += 1;
     }
-    v
+    n
 }
 
 // Writes the clusters in topological order to the front of out, and answers how many it took.
@@ -105,25 +134,10 @@ pub fn order(row: &[u16], starts: &[u16], ends: &[u16], g: usize, out: &mut [u16
     ensures { λ r. ⌜ r ≡ length (orderOf (arcs (now (row .entry)) (now (starts .entry)) (now (ends .entry))) g) ⌝ }
     ensures { λ r. ⌜ now (out .exit) ≡ over (orderOf (arcs (now (row .entry)) (now (starts .entry)) (now (ends .entry))) g) (now (out .entry)) ⌝ }
 {
-    let mut head = [0u16; 512];
+    let mut head = [0u16; 513];
     let mut next = [0u16; 1024];
-    let mut count = [0u16; 512];
-    let mut marks = [0u8; 512];
-    graph::fill(row, starts, &mut head, &mut next);
-    counts(row, starts, ends, &mut count);
-    let mut lo: usize = 0;
-    let mut n: usize = 0;
-    while n < g {
-        let u = scan(&marks, &count, lo, g);
-        if u >= g {
-            return n;
-        }
-        out[n] = u as u16;
-        marks[u] = 1;
-        lo = release(row, starts, ends, &head, &next, u, &mut count);
-        n += 1;
-    }
-    n
+    graph::fill_leaving(row, starts, ends, &mut head, &mut next);
+    order_by(row, starts, ends, &head, &next, g, out)
 }
 
 // Marks b and puts it into the queue, unless it is u or marked already. Answers how many the queue then holds.
@@ -145,9 +159,9 @@ fn enter(row: &[u16], starts: &[u16], ends: &[u16], v: usize, u: usize, b: usize
 }
 
 // Enters what the edges from u go to.
-fn spread(row: &[u16], starts: &[u16], ends: &[u16], head: &[u16; 512], next: &[u16; 1024], v: usize, u: usize, marks: &mut [u8; 512], queue: &mut [u16; 512], n: usize) -> usize
+fn spread(row: &[u16], starts: &[u16], ends: &[u16], head: &[u16; 513], next: &[u16; 1024], v: usize, u: usize, marks: &mut [u8; 512], queue: &mut [u16; 512], n: usize) -> usize
     requires { ⌜ Joins (now row) (now starts) (now ends) ⌝ }
-    requires { ⌜ Linked (via (now row) (now starts)) (length (now starts)) (now head) (now next) ⌝ }
+    requires { ⌜ Linked (leave (arcs (now row) (now starts) (now ends))) (length (now starts)) (now head) (now next) ⌝ }
     requires { ⌜ Queued (arcs (now row) (now starts) (now ends)) v (now marks) (now queue) n ⌝ }
     requires { ⌜ (u < 512) × ((u ≡ v) ⊎ (marked (now marks) u ≡ true)) ⌝ }
     ensures { λ r. ⌜ Spread (arcs (now (row .entry)) (now (starts .entry)) (now (ends .entry))) v u (length (now (starts .entry))) (now (marks .entry)) (now (queue .entry)) n (now (marks .exit)) (now (queue .exit)) r ⌝ }
@@ -164,9 +178,9 @@ fn spread(row: &[u16], starts: &[u16], ends: &[u16], head: &[u16; 512], next: &[
 }
 
 // Whether a walk from v comes back to it.
-fn returns_to(row: &[u16], starts: &[u16], ends: &[u16], head: &[u16; 512], next: &[u16; 1024], g: usize, v: usize) -> bool
+fn returns_to(row: &[u16], starts: &[u16], ends: &[u16], head: &[u16; 513], next: &[u16; 1024], g: usize, v: usize) -> bool
     requires { ⌜ Joins (now row) (now starts) (now ends) ⌝ }
-    requires { ⌜ Linked (via (now row) (now starts)) (length (now starts)) (now head) (now next) ⌝ }
+    requires { ⌜ Linked (leave (arcs (now row) (now starts) (now ends))) (length (now starts)) (now head) (now next) ⌝ }
     requires { ⌜ Inside (arcs (now row) (now starts) (now ends)) g ⌝ }
     requires { ⌜ v < 512 ⌝ }
     ensures { λ r. ⌜ r ≡ onCycle (arcs (now (row .entry)) (now (starts .entry)) (now (ends .entry))) g v ⌝ }
@@ -190,9 +204,9 @@ fn search_cycle(row: &[u16], starts: &[u16], ends: &[u16], g: usize) -> usize
     requires { ⌜ g ≤ 512 ⌝ }
     ensures { λ r. ⌜ r ≡ lowestOnCycle (arcs (now (row .entry)) (now (starts .entry)) (now (ends .entry))) g ⌝ }
 {
-    let mut head = [0u16; 512];
+    let mut head = [0u16; 513];
     let mut next = [0u16; 1024];
-    graph::fill(row, starts, &mut head, &mut next);
+    graph::fill_leaving(row, starts, ends, &mut head, &mut next);
     let mut v: usize = 0;
     while v < g {
         if returns_to(row, starts, ends, &head, &next, g, v) {

@@ -177,7 +177,7 @@ fn mark(stamp: u16, now: u16) -> u8
 }
 
 // Marks the edges of s that repeat an earlier one: those that go to a vertex that is stamped already.
-fn mark_repeats(row: &[u16], starts: &[u16], ends: &[u16], head: &[u16; 512], next: &[u16; 1024], s: usize, stamps: &mut [u16; 512], again: &mut [u8; 1024])
+fn mark_repeats(row: &[u16], starts: &[u16], ends: &[u16], head: &[u16; 513], next: &[u16; 1024], s: usize, stamps: &mut [u16; 512], again: &mut [u8; 1024])
     requires { ⌜ Fits (now row) (now starts) (now ends) ⌝ }
     requires { ⌜ Linked (via (now row) (now starts)) (length (now starts)) (now head) (now next) ⌝ }
     requires { ⌜ s < 512 ⌝ }
@@ -202,7 +202,7 @@ fn mark_all(row: &[u16], starts: &[u16], ends: &[u16], again: &mut [u8; 1024])
     requires { ⌜ ((i : ℕ) → getD (now again) i 0 ≡ 0) ⌝ }
     ensures { λ _. ⌜ ((i : ℕ) → i < length (now (starts .entry)) → getD (now (again .exit)) i 0 ≡ when (repeats (now (starts .entry)) (now (ends .entry)) i) 1) × (length (now (again .exit)) ≡ 1024) ⌝ }
 {
-    let mut head = [0u16; 512];
+    let mut head = [0u16; 513];
     let mut next = [0u16; 1024];
     let mut stamps = [0u16; 512];
     graph::fill(row, starts, &mut head, &mut next);

@@ -1,33 +1,73 @@
 -- What a visit of a cluster sees: the parts that its edges lead to, and their width to each.
-use Prim.Native.Nat.{ℕ, _+_, _≤_, _<_}
+use Prim.Native.Nat.{ℕ, _+_, _≤_, _<_, min, max}
 use mathlib.Core.Path.{_≡_}
+use mathlib.Core.Bool.{_&&_}
 use mathlib.Core.List.{List}
+use lib.Dec.{eqb}
 use lib.ListN.{length, getD}
-use Rattle.folds.specs.Fold.{sumTo, turns}
-use Rattle.moves.specs.Move.{share}
-use Rattle.moves.specs.Pass.{lowered, raised}
+use Rattle.folds.specs.Fold.{pick, when, sumTo, turns}
+use Rattle.graph.specs.Graph.{via}
+use Rattle.graph.specs.Links.{Linked}
 
 -- a part below 16 for each cluster
 pub record Placed (table : List ℕ) : Type 0 where
   pub long : length table ≡ 512
   pub low : (c : ℕ) → c < 512 → getD table c 0 < 16
 
+-- the ends of at most 1024 edges, clusters below 512
+pub record Named (ends : List ℕ) : Type 0 where
+  pub few : length ends ≤ 1024
+  pub low : (i : ℕ) → i < length ends → getD ends i 0 < 512
+
+-- a rung's edges in lists: edge i goes from cluster froms[i] to cluster tos[i]
+pub record Listed (froms tos widths : List ℕ) : Type 0 where
+  pub from : Named froms
+  pub to : Named tos
+  pub same-ends : length tos ≡ length froms
+  pub same-widths : length widths ≡ length froms
+  pub narrow : sumTo (length froms) (λ i. getD widths i 0) ≤ 67107840
+
+-- the edges' lists by the cluster that they leave, and by the one that they enter
+pub record Indexed (froms tos head next head-in next-in : List ℕ) : Type 0 where
+  pub out : Linked (λ i. getD froms i 0) (length froms) head next
+  pub into : Linked (λ i. getD tos i 0) (length tos) head-in next-in
+
+-- s, and the part at the far end of edge j where its near end is h
+unfoldable pub lowerBy : List ℕ → List ℕ → List ℕ → ℕ → ℕ → ℕ → ℕ
+lowerBy near far table h j s = pick (eqb (getD near j 0) h) (min s (via table far j)) s
+
+unfoldable pub raiseBy : List ℕ → List ℕ → List ℕ → ℕ → ℕ → ℕ → ℕ
+raiseBy near far table h j s = pick (eqb (getD near j 0) h) (max s (via table far j + 1)) s
+
+-- the width of edge j where it leads from h to part u
+unfoldable pub widthTo : List ℕ → List ℕ → List ℕ → List ℕ → ℕ → ℕ → ℕ → ℕ
+widthTo near far widths table h u j = when (eqb (getD near j 0) h && eqb (via table far j) u) (getD widths j 0)
+
+-- what the edges of h say: the lowest part of a successor, or k; one more than the highest of a predecessor, or 0; the width to or from part u
+unfoldable pub lowNext : List ℕ → List ℕ → List ℕ → ℕ → ℕ → ℕ
+lowNext froms tos table h k = turns (length froms) (lowerBy froms tos table h) k
+
+unfoldable pub highBefore : List ℕ → List ℕ → List ℕ → ℕ → ℕ
+highBefore froms tos table h = turns (length froms) (raiseBy tos froms table h) 0
+
+unfoldable pub pullTo : List ℕ → List ℕ → List ℕ → List ℕ → ℕ → ℕ → ℕ
+pullTo froms tos widths table h u = sumTo (length froms) (widthTo froms tos widths table h u) + sumTo (length froms) (widthTo tos froms widths table h u)
+
 -- the 16 sums before a walk
 pub record Room (toward : List ℕ) : Type 0 where
   pub long : length toward ≡ 16
   pub room : (u : ℕ) → u < 16 → getD toward u 0 ≤ 67107840
 
--- of the first m edges with their near end in h: the lowest part at the far ends, or k; one more than the highest, or 0; the width to each part
-pub record Reached (row near far widths parts : List ℕ) (h k m : ℕ) (toward : List ℕ) (low high : ℕ) (toward′ : List ℕ) : Type 0 where
-  pub low-is : low ≡ turns m (lowered row near far parts h) k
-  pub high-is : high ≡ turns m (raised row near far parts h) 0
+-- of the first m edges with the near end h: the lowest part at the far ends, or k; one more than the highest, or 0; the width to each part
+pub record Reached (near far widths table : List ℕ) (h k m : ℕ) (toward : List ℕ) (low high : ℕ) (toward′ : List ℕ) : Type 0 where
+  pub low-is : low ≡ turns m (lowerBy near far table h) k
+  pub high-is : high ≡ turns m (raiseBy near far table h) 0
   pub long : length toward′ ≡ 16
-  pub toward-is : (u : ℕ) → u < 16 → getD toward′ u 0 ≡ getD toward u 0 + sumTo m (share row near far widths parts h u)
+  pub toward-is : (u : ℕ) → u < 16 → getD toward′ u 0 ≡ getD toward u 0 + sumTo m (widthTo near far widths table h u)
 
--- of all edges of h: the lowest part of a successor, one more than the highest of a predecessor, and the width to or from each part
-pub record Seen (row starts ends widths parts : List ℕ) (h k low high : ℕ) (toward : List ℕ) : Type 0 where
-  pub low-is : low ≡ turns (length starts) (lowered row starts ends parts h) k
-  pub high-is : high ≡ turns (length starts) (raised row ends starts parts h) 0
+-- all of that
+pub record Seen (froms tos widths table : List ℕ) (h k low high : ℕ) (toward : List ℕ) : Type 0 where
+  pub low-is : low ≡ lowNext froms tos table h k
+  pub high-is : high ≡ highBefore froms tos table h
   pub long : length toward ≡ 16
-  pub toward-is : (u : ℕ) → u < 16
-      → getD toward u 0 ≡ sumTo (length starts) (share row starts ends widths parts h u) + sumTo (length starts) (share row ends starts widths parts h u)
+  pub toward-is : (u : ℕ) → u < 16 → getD toward u 0 ≡ pullTo froms tos widths table h u

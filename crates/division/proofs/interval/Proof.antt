@@ -1,4 +1,4 @@
--- None of the first i starts is above p.
+-- none of the first i starts is above p
 use Prim.Native.Nat.{_-_, _≤_}
 use mathlib.Core.Path.{_≡_}
 use native.Mathlib.Omega.{arith}
@@ -7,7 +7,7 @@ use lib.Dec.{ltb}
 use borrow.Author.Tests.{lt-ltb, le-ltb}
 use Rattle.folds.specs.Fold.{firstTo}
 use Rattle.folds.proofs.Searches.{firstTo-zero, firstTo-more, firstTo-at, firstTo-end}
-use Rattle.division.proofs.Tables.{within-is}
+use Rattle.division.proofs.Tables.{labelled}
 use borrow.Author.Needs.{needs}
 use Rattle.division.proofs.interval.Statement.{statement}
 use Rattle.division.proofs.interval.Tie as tie
@@ -26,8 +26,8 @@ interval-spec =
     (λ c. search needs)
     (λ c. search needs)
     (λ c κs. search needs)
-    (λ c. let l = c .before .before .before .before .loop in let p = c .before .before .before .before .before .pre in within-is (p .0) (p .1) (firstTo-at _ (l .i) _ (l .inv .1) (lt-ltb _ _ (rw (c .before .wide .ensures) at (c .if1 .taken))) (c .before .before .before .loop-test .taken)))
+    (λ c. let l = c .before .before .before .before .loop in let p = c .before .before .before .before .before .pre in labelled (p .0) (p .1) (firstTo-at _ (l .i) _ (l .inv .1) (lt-ltb _ _ (rw (c .before .wide .ensures) at (c .if1 .taken))) (c .before .before .before .loop-test .taken)))
     (λ c. search needs)
     (λ c. search needs)
     (λ c. let l = c .before .before .before .before .loop in (omega arith, firstTo-more (l .i) _ (l .inv .1) (le-ltb _ _ (rw (c .before .wide .ensures) at (c .if1 .left)))))
-    (λ c. let p = c .before .before .pre in within-is (p .0) (p .1) (firstTo-end _ _ _ (c .before .loop .inv .1) (omega arith) (c .loop-test .left))))
+    (λ c. let p = c .before .before .pre in labelled (p .0) (p .1) (firstTo-end _ _ _ (c .before .loop .inv .1) (omega arith) (c .loop-test .left))))

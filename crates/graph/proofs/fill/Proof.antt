@@ -33,5 +33,5 @@ fill-spec =
     (λ c. let l = c .before .before .before .loop in
     let p = c .before .before .before .before .before .before .before .pre in
     let r = c .before .cluster .ensures in
-    (refl, omega arith, made-down _ _ (l .j) _ (l .head) (l .next) (sym (r .is)) (r .low) (omega arith) (l .inv .1) (p .0 .few) (l .inv .2)))
+    (refl, omega arith, made-down _ _ (l .j) _ (l .head) (l .next) (sym (r .is)) (omega (arith, r .low)) (omega arith) (l .inv .1) (p .0 .few) (l .inv .2)))
     (λ c. made-end _ _ (omega arith) (c .before .loop .inv .2)))

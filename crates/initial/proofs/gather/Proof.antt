@@ -1,3 +1,4 @@
+-- the edges of y's list before j have come in
 use native.Mathlib.Omega.{arith}
 use Prim.Native.Nat.{_-_}
 use mathlib.Core.Path.{_≡_, refl}
@@ -30,15 +31,15 @@ gather-spec =
     (λ c. search needs)
     (λ c. search needs)
     (λ c. let p = c .before .before .before .before .before .before .before .before .before .before .before .pre in let a = c .before .before .before .before .before .before .before .before .before .before .before .args in let l = c .before .before .before .before .loop in let x = c .before .before .cluster .result in
-    omega (arith, p .0 .out .few, p .1 .1 .1 .low x, l .inv .2 .adds x, from-small (a .places .now) (a .starts .now) (a .ends .now) (a .widths .now) (a .y) x (l .j) (λ k. omega (arith, c .before .before .before .before .before .before .before .shared-slice-known4 .given k)), c .before .at32 .ensures .low))
+    omega (arith, p .0 .out .few, p .1 .1 .1 .low x, l .inv .2 .adds x, from-small (a .places .now) (a .starts .now) (a .ends .now) (a .widths .now) (a .y) x (l .j) (λ k. omega (arith, c .before .before .before .before .before .before .before .shared-slice-known4 .given k)), c .before .entry .ensures .low))
     (λ c. search needs)
     (λ c. search needs)
     (λ c. let p = c .before .before .before .before .before .before .before .before .before .before .before .pre in let a = c .before .before .before .before .before .before .before .before .before .before .before .args in let l = c .before .before .before .before .loop in
-    omega (arith, p .0 .out .few, l .inv .2 .sums, starting-small (a .places .now) (a .starts .now) (a .widths .now) (a .y) (l .j) (λ k. omega (arith, c .before .before .before .before .before .before .before .shared-slice-known4 .given k)), c .before .at32 .ensures .low))
+    omega (arith, p .0 .out .few, l .inv .2 .sums, starting-small (a .places .now) (a .starts .now) (a .widths .now) (a .y) (l .j) (λ k. omega (arith, c .before .before .before .before .before .before .before .shared-slice-known4 .given k)), c .before .entry .ensures .low))
     (λ c. search needs)
     (λ c. search needs)
     (λ c κs. search needs)
     (λ c. omega (arith, c .wide2 .ensures, walk-less (c .before .before .before .before .before .before .before .before .before .before .before .before .before .pre .1 .0) (c .before .before .before .before .before .before .loop .j) (c .before .before .before .before .before .loop-test .taken)))
     (λ c. let p = c .before .before .before .before .before .before .before .before .before .before .before .before .before .pre in let l = c .before .before .before .before .before .before .loop in let t = c .before .before .before .before .before .loop-test .taken in let k = c .before .before .before .before .cluster .ensures in
-    (refl, rw (c .wide2 .ensures) (walk-next (p .1 .0) _ _ (l .inv .1) t), rw (c .wide2 .ensures) (gathered-turn _ _ _ _ _ _ _ (p .1 .1 .0 .0) (p .1 .0) (l .j) _ _ _ _ _ _ (l .inv .1) t (k .is) (k .low) (c .before .before .before .at32 .ensures) (l .inv .2))))
+    (refl, rw (c .wide2 .ensures) (walk-next (p .1 .0) _ _ (l .inv .1) t), rw (c .wide2 .ensures) (gathered-turn _ _ _ _ _ _ _ (p .1 .1 .0 .0) (p .1 .0) (l .j) _ _ _ _ _ _ (l .inv .1) t (k .is) (k .low) (c .before .before .before .entry .ensures) (l .inv .2))))
     (λ c. let l = c .before .loop in rw (on-end (l .inv .1) (c .loop-test .left)) at (l .inv .2)))

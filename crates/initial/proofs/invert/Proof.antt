@@ -1,3 +1,4 @@
+-- the first i entries have their places
 use native.Mathlib.Omega.{arith}
 use Prim.Native.Nat.{_-_, _≤_}
 use mathlib.Core.Path.{_≡_}
@@ -17,14 +18,12 @@ pub invert-spec : {M : Type 1} → statement M
 invert-spec =
     tie.close
     (tie.spec Inv-loop μ-loop
-    (λ c. (omega arith, inverse-none (c .pre .1 .1)))
+    (λ c. (omega arith, inverse-none (c .before .pre .1 .1)))
+    (λ c κs. omega (arith, c .before .before .before .pre .0 .long))
     (λ c. search needs)
-    (λ c. omega (arith, c .before .before .pre .0 .tall))
-    (λ c κs. search needs)
-    (λ c. search needs)
-    (λ c. omega (arith, c .wide .ensures, c .before .before .before .before .pre .0 .low (c .before .before .before .loop .i) (c .before .before .loop-test .taken)))
-    (λ c. omega (arith, c .wide .ensures, c .before .before .before .before .pre .0 .low (c .before .before .before .loop .i) (c .before .before .loop-test .taken), c .before .before .before .loop .inv .1 .tall))
+    (λ c. omega (arith, c .at16 .ensures .is, c .before .before .before .before .pre .0 .low (c .before .before .loop .i) (c .before .loop-test .taken)))
+    (λ c. omega (arith, c .at16 .ensures .is, c .before .before .before .before .pre .0 .low (c .before .before .loop .i) (c .before .loop-test .taken)))
     (λ c. search needs)
     (λ c. search needs)
-    (λ c. (omega arith, inverse-turn (c .before .before .before .before .pre .0) (c .before .before .loop-test .taken) (c .wide .ensures) (c .before .before .before .loop .inv .1)))
-    (λ c. let l = c .before .loop in let e : l .i ≡ c .before .before .args .g = omega arith in rw e at (l .inv .1)))
+    (λ c. (omega arith, inverse-turn (c .before .before .before .before .pre .0) (c .before .loop-test .taken) (c .at16 .ensures .is) (c .before .before .loop .inv .1)))
+    (λ c. let l = c .before .loop in let e : l .i ≡ c .before .before .before .args .g = omega arith in rw e at (l .inv .1)))

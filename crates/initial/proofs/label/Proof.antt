@@ -1,3 +1,4 @@
+-- the first v entries are the intervals of their positions
 use native.Mathlib.Omega.{arith}
 use Prim.Native.Nat.{_-_, _≤_}
 use mathlib.Core.Path.{_≡_, _∙_, ap}

@@ -1,3 +1,4 @@
+-- the first v entries are those of their clusters
 use native.Mathlib.Omega.{arith}
 use Prim.Native.Nat.{_-_, _≤_}
 use mathlib.Core.Path.{_≡_, ap}

@@ -1,4 +1,5 @@
-use Rattle.graph.specs.Graph.{via, arcs}
+use Rattle.graph.specs.Graph.{arcs}
+use Rattle.graph.specs.Links.{leave}
 use Rattle.graph.proofs.Links.{On, walk-on, walk-next, walk-less, on-end}
 use Rattle.offers.specs.State.{Blocking}
 use Rattle.offers.proofs.Loops.{blocking-none, blocking-turn}
@@ -11,7 +12,7 @@ use Rattle.offers.proofs.block.Statement.{statement}
 use Rattle.offers.proofs.block.Tie as tie
 
 abbrev Inv-loop : tie.InvT-loop
-Inv-loop row starts ends head next levels u blocked₀ m j₀ blocked j = (m ≡ length starts) × On (via row starts) m u j × Blocking (arcs row starts ends) levels u j blocked₀ blocked
+Inv-loop row starts ends head next levels u blocked₀ m j₀ blocked j = (m ≡ length starts) × On (leave (arcs row starts ends)) m u j × Blocking (arcs row starts ends) levels u j blocked₀ blocked
 
 abbrev μ-loop : tie.MeasureT-loop
 μ-loop row starts ends head next levels u blocked₀ m j₀ blocked j = m - j
@@ -30,5 +31,5 @@ block-spec =
     (λ c. search needs)
     (λ c κs. search needs)
     (λ c. omega (arith, c .wide2 .ensures, walk-less (c .before .before .before .before .before .before .before .before .before .before .before .before .pre .1 .0) (c .before .before .before .before .before .before .loop .j) (c .before .before .before .before .before .loop-test .taken)))
-    (λ c. let p = c .before .before .before .before .before .before .before .before .before .before .before .before .pre in let l = c .before .before .before .before .before .before .loop in let t = c .before .before .before .before .before .loop-test .taken in let k = c .before .before .before .before .cluster .ensures in (refl, rw (c .wide2 .ensures) (walk-next (p .1 .0) _ _ (l .inv .1) t), rw (c .wide2 .ensures, c .before .before .mark-next .ensures) (blocking-turn _ _ _ (p .1 .0) (l .inv .1) t refl (k .is) (k .low) (l .inv .2))))
+    (λ c. let p = c .before .before .before .before .before .before .before .before .before .before .before .before .pre in let l = c .before .before .before .before .before .before .loop in let t = c .before .before .before .before .before .loop-test .taken in let k = c .before .before .before .before .cluster .ensures in (refl, rw (c .wide2 .ensures) (walk-next (p .1 .0) _ _ (l .inv .1) t), rw (c .wide2 .ensures, c .before .before .mark-next .ensures) (blocking-turn _ _ _ (p .1 .0) (l .inv .1) t (p .1 .1 .0) refl (k .is) (k .low) (l .inv .2))))
     (λ c. let l = c .before .loop in rw (on-end (l .inv .1) (c .loop-test .left)) at (l .inv .2)))

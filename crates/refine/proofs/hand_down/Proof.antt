@@ -1,3 +1,4 @@
+-- The first v entries are the parts of their clusters.
 use Rattle.refine.proofs.Tables.{shared-in, through-filled}
 use Rattle.folds.specs.Fold.{Filled}
 use Rattle.folds.proofs.Slices.{filled-none, filled-turn}

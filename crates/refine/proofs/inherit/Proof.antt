@@ -1,3 +1,4 @@
+-- The clusters of the first v vertices have their parts.
 use Rattle.refine.proofs.Tables.{shared-in, inherits-none, inherits-turn}
 use Rattle.refine.specs.Tables.{Inherits}
 use Prim.Native.Nat.{_≤_, _-_}

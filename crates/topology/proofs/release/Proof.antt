@@ -1,7 +1,8 @@
 use Rattle.topology.proofs.Waiting.{released-none, released-room, released-turn}
 use Rattle.topology.specs.Counts.{Released}
 use Rattle.graph.proofs.Links.{On, walk-on, walk-next, walk-less, on-end}
-use Rattle.graph.specs.Graph.{via, arcs}
+use Rattle.graph.specs.Graph.{arcs}
+use Rattle.graph.specs.Links.{leave}
 use lib.ListN.{length}
 use native.Mathlib.Omega.{arith}
 use mathlib.Core.Path.{_≡_, refl, sym, _∙_}
@@ -11,10 +12,10 @@ use Rattle.topology.proofs.release.Statement.{statement}
 use Rattle.topology.proofs.release.Tie as tie
 
 abbrev Inv-loop : tie.InvT-loop
-Inv-loop row starts ends head next u count₀ m lo₀ j₀ count lo j = (m ≡ length starts) × On (via row starts) m u j × Released (arcs row starts ends) u j count₀ u count lo
+Inv-loop row starts ends head next u g count₀ pool₀ m j₀ count pool j = (m ≡ length starts) × On (leave (arcs row starts ends)) m u j × Released (arcs row starts ends) u j g count₀ pool₀ count pool
 
 abbrev μ-loop : tie.MeasureT-loop
-μ-loop row starts ends head next u count₀ m lo₀ j₀ count lo j = m - j
+μ-loop row starts ends head next u g count₀ pool₀ m j₀ count pool j = m - j
 
 pub release-spec : {M : Type 1} → statement M
 release-spec =
@@ -24,17 +25,12 @@ release-spec =
     (λ c. search needs)
     (λ c κs. search needs)
     (λ c. let p = c .before .before .before .before .before .pre in
-    (refl, rw (c .wide .ensures) (walk-on (p .1 .0) _ (p .1 .1 .0)), rw (c .wide .ensures) (released-none _ (p .1 .0) _ _ _ (p .1 .1 .0) (p .1 .1 .1 .0))))
+    (refl, rw (c .wide .ensures) (walk-on (p .1 .0) _ (p .1 .1 .0)), rw (c .wide .ensures) (released-none _ (p .1 .0) _ _ _ _ (p .1 .1 .0) (p .1 .1 .1 .0 .0) (p .1 .1 .1 .0 .1))))
     (λ c κs. search needs)
-    (λ c κs. search needs)
-    (λ c. search needs)
-    (λ c. search needs)
-    (λ c. let p = c .before .before .before .before .before .before .before .before .before .before .pre in
+    (λ c κs. let p = c .before .before .before .before .before .before .before .before .before .before .pre in
     let l = c .before .before .before .before .loop in
-    released-room _ (p .1 .0) _ _ _ _ _ _ _ _ (p .1 .1 .1 .1) (l .inv .1) (c .before .before .before .loop-test .taken) (c .before .before .cluster .ensures .is) (c .before .before .cluster .ensures .low) (c .before .across .ensures) (l .inv .2))
-    (λ c. search needs)
-    (λ c. search needs)
-    (λ c κs. search needs)
+    let k = c .before .before .cluster .ensures in
+    (k .low, (released-room _ (p .1 .0) _ _ _ _ (p .1 .1 .0) (l .j) _ _ _ (p .1 .1 .1 .1) (l .inv .1) (c .before .before .before .loop-test .taken) (k .is) (k .low) (l .inv .2), (l .inv .2 .tall, l .inv .2 .wide))))
     (λ c. search needs)
     (λ c. search needs)
     (λ c κs. search needs)
@@ -42,8 +38,5 @@ release-spec =
     (λ c. let p = c .before .before .before .before .before .before .before .before .before .before .before .before .before .pre in
     let l = c .before .before .before .before .before .before .before .loop in
     let t = c .before .before .before .before .before .before .loop-test .taken in
-    let k = c .before .before .before .before .before .cluster .ensures in
-    let a = c .before .before .before .before .across .ensures in
-    let room = released-room _ (p .1 .0) _ _ _ (l .j) _ _ _ _ (p .1 .1 .1 .1) (l .inv .1) t (k .is) (k .low) a (l .inv .2) in
-    (refl, rw (c .wide2 .ensures) (walk-next (p .1 .0) _ _ (l .inv .1) t), rw (c .wide2 .ensures) (released-turn _ (p .1 .0) _ _ _ (l .j) _ _ (l .lo) _ (l .count) (l .inv .1) t (k .is) (k .low) a room (c .before .before .lower .ensures) (l .inv .2))))
+    (refl, rw (c .wide2 .ensures) (walk-next (p .1 .0) _ _ (l .inv .1) t), rw (c .wide2 .ensures) (released-turn _ (p .1 .0) _ _ _ _ (p .1 .1 .0) (l .j) _ _ _ _ _ (l .inv .1) t (c .before .before .before .before .before .cluster .ensures .is) (c .before .before .pass .ensures) (l .inv .2))))
     (λ c. let l = c .before .loop in rw (on-end (l .inv .1) (c .loop-test .left)) at (l .inv .2)))

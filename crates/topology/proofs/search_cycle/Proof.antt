@@ -1,6 +1,6 @@
 use Rattle.topology.specs.Reach.{onCycle, lowestOnCycle}
-use Rattle.graph.specs.Graph.{via, arcs}
-use Rattle.graph.specs.Links.{Linked}
+use Rattle.graph.specs.Graph.{arcs}
+use Rattle.graph.specs.Links.{Linked, leave}
 use Rattle.folds.specs.Fold.{firstTo}
 use Rattle.folds.proofs.Searches.{firstTo-zero, firstTo-more, firstTo-at, firstTo-end}
 use lib.ListN.{length}
@@ -13,7 +13,7 @@ use Rattle.topology.proofs.search_cycle.Tie as tie
 
 abbrev Inv-loop : tie.InvT-loop
 Inv-loop row starts ends g head next v₀ v =
-    (v ≤ g) × Linked (via row starts) (length starts) head next × (firstTo v (onCycle (arcs row starts ends) g) ≡ v)
+    (v ≤ g) × Linked (leave (arcs row starts ends)) (length starts) head next × (firstTo v (onCycle (arcs row starts ends) g) ≡ v)
 
 abbrev μ-loop : tie.MeasureT-loop
 μ-loop row starts ends g head next v₀ v = g - v
@@ -24,7 +24,7 @@ search-cycle-spec =
     tie.close
     (tie.spec Inv-loop μ-loop
     (λ c κs. search needs)
-    (λ c. (omega arith, c .fill .ensures, firstTo-zero _))
+    (λ c. (omega arith, c .fill-leaving .ensures, firstTo-zero _))
     (λ c κs. let p = c .before .before .before .before .before .before .before .before .before .before .pre in (p .0, (c .before .before .before .loop .inv .1, (p .1 .0, omega arith))))
     (λ c. search (firstTo-at, sym (c .before .returns-to .ensures) ∙ c .if1 .taken))
     (λ c. search needs)

@@ -1,6 +1,7 @@
 use Rattle.topology.specs.Search.{Spread}
 use Rattle.topology.proofs.Searching.{spread-none, spread-turn, spread-walk}
-use Rattle.graph.specs.Graph.{via, arcs}
+use Rattle.graph.specs.Graph.{arcs}
+use Rattle.graph.specs.Links.{leave}
 use Rattle.graph.proofs.Links.{On, walk-on, walk-next, walk-less, on-end}
 use lib.ListN.{length}
 use native.Mathlib.Omega.{arith}
@@ -12,7 +13,7 @@ use Rattle.topology.proofs.spread.Tie as tie
 
 abbrev Inv-loop : tie.InvT-loop
 Inv-loop row starts ends head next v u marks₀ queue₀ n m count₀ j₀ marks queue count j =
-    (m ≡ length starts) × On (via row starts) m u j × Spread (arcs row starts ends) v u j marks₀ queue₀ n marks queue count
+    (m ≡ length starts) × On (leave (arcs row starts ends)) m u j × Spread (arcs row starts ends) v u j marks₀ queue₀ n marks queue count
 
 abbrev μ-loop : tie.MeasureT-loop
 μ-loop row starts ends head next v u marks₀ queue₀ n m count₀ j₀ marks queue count j = m - j
@@ -30,7 +31,7 @@ spread-spec =
     (λ c κs. let p = c .before .before .before .before .before .before .before .before .before .before .pre in
     let l = c .before .before .before .before .loop in
     let k = c .before .before .cluster .ensures in
-    (l .inv .2 .now, (k .low, spread-walk (p .1 .0) (p .1 .1 .1 .1) (l .inv .2) (l .inv .0) (l .inv .1) (c .before .before .before .loop-test .taken) (k .is))))
+    (l .inv .2 .now, (k .low, spread-walk (p .1 .0) (p .1 .1 .1 .1) (l .inv .2) (l .inv .0) (l .inv .1) (c .before .before .before .loop-test .taken) (p .1 .1 .1 .0) (k .is))))
     (λ c. search needs)
     (λ c. search needs)
     (λ c κs. search needs)

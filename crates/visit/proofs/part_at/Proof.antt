@@ -1,3 +1,4 @@
+-- The table has a part below 16 for each cluster.
 use borrow.Author.Needs.{needs}
 use Rattle.visit.proofs.part_at.Statement.{statement}
 use Rattle.visit.proofs.part_at.Tie as tie

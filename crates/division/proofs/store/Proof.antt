@@ -1,0 +1,32 @@
+-- j lanes are stored
+use Prim.Native.Nat.{_-_, _≤_}
+use mathlib.Core.Path.{_≡_}
+use native.Mathlib.Omega.{arith}
+use Rattle.division.specs.Table.{Stored}
+use Rattle.division.proofs.Tables.{stored-none, stored-turn}
+use borrow.Author.Needs.{needs}
+use Rattle.division.proofs.store.Statement.{statement}
+use Rattle.division.proofs.store.Tie as tie
+
+abbrev Inv-loop : tie.InvT-loop
+Inv-loop best at cut₀ j₀ cut j = (j ≤ 16) × Stored at j best cut₀ cut
+
+abbrev μ-loop : tie.MeasureT-loop
+μ-loop best at cut₀ j₀ cut j = 16 - j
+
+pub store-spec : {M : Type 1} → statement M
+store-spec =
+    tie.close
+    (tie.spec Inv-loop μ-loop
+    (λ c. (omega arith, stored-none (c .pre .1 .0 .low)))
+    (λ c. search needs)
+    (λ c. search needs)
+    (λ c. search needs)
+    (λ c. search needs)
+    (λ c. search needs)
+    (λ c. search needs)
+    (λ c. search needs)
+    (λ c. search needs)
+    (λ c. let p = c .before .before .before .pre in
+    (omega arith, stored-turn (p .0) (p .1 .0) (p .1 .1) (c .before .loop-test .taken) (c .before .before .loop .inv .1)))
+    (λ c. let e : c .before .loop .j ≡ 16 = omega arith in rw e at (c .before .loop .inv .1)))

@@ -1,0 +1,88 @@
+-- The lists, costs and order of the next row: what the calls ask for, and what they leave.
+use Prim.Native.Nat.{ℕ, zero, suc, _+_, _-_, _*_, _≤_, _<_}
+use mathlib.Core.Path.{_≡_, refl, sym, ap, _∙_}
+use mathlib.Core.List.{List, _++_}
+use native.Mathlib.Nat.{suc-mul, mul-le-mul-right}
+use native.Mathlib.Omega.{arith}
+use lib.Dec.{ltb}
+use lib.ListN.{length, getD, set, take, drop}
+use borrow.Rule.Slice.PartMut.{putMid}
+use Rattle.folds.specs.Fold.{pick, firstTo, listTo, over, put, part, zeros}
+use Rattle.folds.proofs.Cases.{by}
+use Rattle.folds.proofs.Lists.{listTo-ext, listTo-getD, length-listTo}
+use Rattle.folds.proofs.Slices.{put-part, length-part, length-over, length-put}
+use Rattle.folds.proofs.Parts.{part-put}
+use Rattle.graph.specs.Graph.{Arcs, identity, arcs}
+use Rattle.graph.specs.Links.{Joins}
+use Rattle.graph.proofs.Edges.{identity-at}
+use Rattle.graph.proofs.Coarse.{coarse-joins, coarse-inside}
+use Rattle.topology.specs.Order.{ready, orNone, orderFrom, orderOf}
+use Rattle.row_lists.specs.Carry.{Between, Maps, Next, Merged}
+use Rattle.row_lists.proofs.Carrying.{handed}
+use Rattle.hierarchy.specs.Built.{HandsOn, HandedOn}
+
+-- the front of the identity
+pub identity-front : (g n : ℕ) → g ≤ n → take g (identity n) ≡ identity g
+unfolding identity
+identity-front g n l = sym (listTo-ext g (λ v. v) (λ k. getD (listTo n (λ v. v)) k 0) (λ v lv. sym (identity-at n v (omega arith))) ∙ listTo-getD g (listTo n (λ v. v)) (rw (length-listTo n (λ v. v)) l))
+
+pub id-length : {id : List ℕ} (n : ℕ) → id ≡ identity n → length id ≡ n
+unfolding identity
+id-length n e = ap length e ∙ length-listTo n (λ v. v)
+
+-- the order takes no more than there are
+from-few : (A : Arcs) (g k : ℕ) (marks : List ℕ) → length (orderFrom A g k marks) ≤ k
+unfolding orderFrom orNone
+from-few A g zero marks = omega arith
+from-few A g (suc k) marks =
+    let v = firstTo g (ready A marks) in
+    by (ltb v g) (λ t. rw t (omega (arith, from-few A g k (set marks v 1)))) (λ t. rw t (omega arith))
+
+order-few : (A : Arcs) (g : ℕ) → length (orderOf A g) ≤ g
+unfolding orderOf
+order-few A g = from-few A g g (zeros 512)
+
+-- places of rows of m entries
+pub next-place : (r m : ℕ) → r < 8 → r * m + m + m ≤ 9 * m
+next-place r m l = omega (arith, suc-mul r m, mul-le-mul-right m l)
+
+pub place-few : (r m : ℕ) → r < 8 → m ≤ 1024 → r * m ≤ 8192
+place-few r m l h = omega (arith, suc-mul r m, mul-le-mul-right m l)
+
+module _ {map froms tos widths froms′ tos′ widths′ : List ℕ} {g h a size b count : ℕ} (few : h ≤ 512) (N : Next map g h a size b froms tos widths froms′ tos′ widths′ count)
+    (rf : b + size ≤ length froms) (rt : b + size ≤ length tos) where
+  to-count : length (N .to) ≡ count
+  to-count = N .lists .same-ends ∙ N .counts
+
+  pub from-part : part froms′ b count ≡ N .from
+  from-part = rw (N .froms-are) (rw (N .counts) at (part-put froms (N .from) b (omega (arith, N .counts, N .few))))
+
+  pub to-part : part tos′ b count ≡ N .to
+  to-part = rw (N .tos-are) (rw to-count at (part-put tos (N .to) b (omega (arith, to-count, N .few))))
+
+  -- as the code hands them on
+  from-handed : take (b + count - b) (drop b froms′) ≡ N .from
+  from-handed = handed froms′ b count ∙ from-part
+
+  to-handed : take (b + count - b) (drop b tos′) ≡ N .to
+  to-handed = handed tos′ b count ∙ to-part
+
+  pub next-joins : {id : List ℕ} → id ≡ identity 512 → Joins (take h id) (take (b + count - b) (drop b froms′)) (take (b + count - b) (drop b tos′))
+  next-joins e = rw (e, identity-front h 512 few, from-handed, to-handed) (coarse-joins (N .lists) few)
+
+  pub from-fits : b + count ≤ length froms′
+  from-fits = rw (N .froms-are, length-put froms b (N .from) (omega (arith, N .counts, N .few))) (omega (arith, N .few))
+
+  pub to-fits : b + count ≤ length tos′
+  to-fits = rw (N .tos-are, length-put tos b (N .to) (omega (arith, to-count, N .few))) (omega (arith, N .few))
+
+  pub next-orders : (orders : List ℕ) {q id : List ℕ} (c n : ℕ) → id ≡ identity 512 → c + n ≤ length orders → h ≤ n
+      → q ≡ over (orderOf (arcs (take h id) (take (b + count - b) (drop b froms′)) (take (b + count - b) (drop b tos′))) h) (take (c + n - c) (drop c orders))
+      → putMid c (c + n - c) orders q ≡ put orders c (over (orderOf (arcs (identity h) (N .from) (N .to)) h) (part orders c n))
+  next-orders orders {q} {id} c n e room le eq =
+      let o = orderOf (arcs (identity h) (N .from) (N .to)) h in
+      let i : take h id ≡ identity h = ap (take h) e ∙ identity-front h 512 few in
+      let p : q ≡ over o (part orders c n) = rw (i, from-handed, to-handed, handed orders c n) at eq in
+      let k : c + n - c ≡ n = omega arith in
+      let l : length (over o (part orders c n)) ≡ n = length-over o (part orders c n) (rw (length-part orders c n room) (omega (arith, order-few (arcs (identity h) (N .from) (N .to)) h))) ∙ length-part orders c n room in
+      put-part orders (over o (part orders c n)) q c (c + n - c) p (k ∙ sym l)

@@ -1,0 +1,142 @@
+-- What is carried of row 0, the vertices themselves.
+use Prim.Native.Nat.{ℕ, suc, _+_, _-_, _*_, _≤_, _<_}
+use mathlib.Core.Path.{_≡_, refl, sym, ap, _∙_}
+use mathlib.Core.List.{List}
+use native.Mathlib.Omega.{arith}
+use lib.ListN.{length, getD, set, take, drop, length-set}
+use lib.Seq.{getD-set-same, length-take-le, take-all}
+use Rattle.folds.specs.Fold.{sumTo, over, put, part}
+use Rattle.folds.proofs.Sums.{sumTo-le}
+use Rattle.folds.proofs.Lists.{getD-past}
+use Rattle.folds.proofs.Slices.{length-put, take-over, length-over}
+use Rattle.folds.proofs.Parts.{part-put}
+use Rattle.graph.specs.Graph.{Graph, vertices, edges, identity, arcs, seen, partCost}
+use Rattle.graph.specs.Rows.{clusters}
+use Rattle.graph.specs.Coarse.{Coarse, Stored}
+use Rattle.graph.specs.Links.{Joins}
+use Rattle.graph.proofs.Edges.{row-inside, identity-row}
+use Rattle.graph.proofs.Coarse.{coarse-joins}
+use Rattle.topology.specs.Order.{orderOf}
+use Rattle.topology.proofs.Orders.{order-all}
+use Rattle.contraction.proofs.Rounds.{identity-clusters}
+use Rattle.matching.specs.Held.{Weights}
+use Rattle.matching.proofs.Lists.{cost-identity}
+use Rattle.row_lists.specs.Carry.{First}
+use Rattle.hierarchy.specs.Built.{rowAt, Carried, Carrying, Room, Buildable}
+
+module _ (G : Graph) (k : ℕ) (B : Buildable G k) where
+  abbrev n : ℕ
+  n = vertices G
+
+  abbrev m : ℕ
+  m = edges G
+
+  own-lists : sumTo m (λ j. getD (G .widths) j 0) ≤ 67107840 → Coarse G (identity n) n (G .starts) (G .ends) (G .widths)
+  own-lists narrow =
+      record {
+        few = B .proper .many;
+        same-ends = B .proper .formed .same-ends;
+        same-widths = B .proper .formed .same-widths;
+        from-in = B .proper .formed .start-in;
+        to-in = B .proper .formed .end-in;
+        apart = B .apart;
+        wide = B .proper .wide;
+        once = B .once;
+        narrow = narrow;
+        width = λ a b. refl;
+      }
+
+  pub widths-narrow : ((j : ℕ) → getD (G .widths) j 0 ≤ 65535) → sumTo m (λ j. getD (G .widths) j 0) ≤ 67107840
+  widths-narrow h = omega (arith, sumTo-le m 65535 (λ j. getD (G .widths) j 0) h, B .proper .many)
+
+  -- the front of a list
+  front : (l p : List ℕ) → length p ≤ length l → part (put l 0 p) (0 * m) (length p) ≡ p
+  front l p h = let z : 0 * m ≡ 0 = omega arith in rw z (part-put l p 0 (omega arith))
+
+  module _ {ladder froms tos widths sizes orders froms′ tos′ widths′ sizes′ : List ℕ} (M : Room G ladder froms tos widths sizes orders)
+      (F : First (G .starts) (G .ends) (G .widths) froms tos widths sizes froms′ tos′ widths′ sizes′) where
+    from-room : m ≤ length froms
+    from-room = omega (arith, M .from-room)
+
+    to-room : m ≤ length tos
+    to-room = omega (arith, M .to-room)
+
+    width-room : m ≤ length widths
+    width-room = omega (arith, M .width-room)
+
+    pub first-kept : (ladder′ : List ℕ) → 9 * n ≤ length ladder′ → Room G ladder′ froms′ tos′ widths′ sizes′ orders
+    first-kept ladder′ rows =
+        record {
+          rows = rows;
+          from-room = rw (F .froms-are, length-put froms 0 (G .starts) (omega (arith, from-room))) (M .from-room);
+          to-room = rw (F .tos-are, length-put tos 0 (G .ends) (omega (arith, to-room, B .proper .formed .same-ends))) (M .to-room);
+          width-room = rw (F .widths-are, length-put widths 0 (G .widths) (omega (arith, width-room, B .proper .formed .same-widths))) (M .width-room);
+          nine = rw (F .sizes-are, length-set sizes 0 m) (M .nine);
+          order-room = M .order-room;
+        }
+
+    order-front : {l : List ℕ} → take n orders ≡ l → take n (part orders (0 * n) n) ≡ l
+    unfolding part
+    order-front o =
+        let y : 0 * n ≡ 0 = omega arith in
+        let h : length (take n orders) ≡ n = length-take-le n orders (omega (arith, M .order-room)) in
+        rw y (take-all n (take n orders) (omega arith) ∙ o)
+
+    pub first-carried : (ladder′ : List ℕ) → rowAt G ladder′ 0 ≡ identity n → sumTo m (λ j. getD (G .widths) j 0) ≤ 67107840
+        → take n orders ≡ orderOf (arcs (identity n) (G .starts) (G .ends)) n → Carried G (rowAt G ladder′) 0 froms′ tos′ widths′ sizes′ orders
+    first-carried ladder′ e narrow o =
+        let K = first-kept ladder (M .rows) in
+        let z : getD sizes′ 0 0 ≡ m = rw (F .sizes-are) (getD-set-same sizes 0 m 0 (omega (arith, M .nine))) in
+        record {
+          lists = record {
+            from-room = omega (arith, K .from-room);
+            to-room = omega (arith, K .to-room);
+            width-room = omega (arith, K .width-room);
+            few = λ r l. let q : r ≡ 0 = omega arith in rw (q, z) (omega arith);
+            is = λ r l. let q : r ≡ 0 = omega arith in
+              rw (q, e, identity-clusters n, z, F .froms-are, F .tos-are, F .widths-are, front froms (G .starts) from-room,
+                rw (B .proper .formed .same-ends) at (front tos (G .ends) (omega (arith, to-room, B .proper .formed .same-ends))),
+                rw (B .proper .formed .same-widths) at (front widths (G .widths) (omega (arith, width-room, B .proper .formed .same-widths)))) (own-lists narrow);
+          };
+          nine = K .nine;
+          long = omega (arith, M .order-room);
+          order = λ r l. let q : r ≡ 0 = omega arith in rw (q, e, identity-clusters n) (order-front o);
+        }
+
+  pub first-carrying : (ladder : List ℕ) {froms tos widths sizes orders weights : List ℕ} → rowAt G ladder 0 ≡ identity n → sumTo n (λ v. getD (G .costs) v 0) ≤ 33553920
+      → Carried G (rowAt G ladder) 0 froms tos widths sizes orders → length weights ≡ 512 → ((c : ℕ) → getD weights c 0 ≡ getD (G .costs) c 0)
+      → ((c : ℕ) → getD (G .costs) c 0 ≤ 65535) → Carrying G ladder 0 n froms tos widths sizes orders weights
+  first-carrying ladder e light C tall h low =
+      record {
+        carried = C;
+        weighed = record { tall = tall; past = λ c l. h c ∙ getD-past (G .costs) c l; light = λ c. omega (arith, h c, low c) };
+        costs = λ c. h c ∙ sym (rw e (cost-identity (G .costs) c));
+      }
+
+  -- row 0 as the code hands it on, and its order
+  pub first-handed : (ladder : List ℕ) → rowAt G ladder 0 ≡ identity n → take (n - 0) (drop 0 ladder) ≡ identity n
+  unfolding part
+  first-handed ladder e = let z : 0 * n ≡ 0 = omega arith in let y : n - 0 ≡ n = omega arith in rw y (rw z at e)
+
+  first-whole : {row : List ℕ} → row ≡ identity n → length (orderOf (arcs row (G .starts) (G .ends)) n) ≡ n
+  first-whole e = rw e (order-all (seen G (identity n)) n (row-inside (B .proper .formed) (identity-row G)) (B .proper .few) (B .acyclic))
+
+  pub first-joins : {row : List ℕ} → row ≡ identity n → sumTo m (λ j. getD (G .widths) j 0) ≤ 67107840 → Joins row (G .starts) (G .ends)
+  first-joins e narrow = rw e (coarse-joins (own-lists narrow) (B .proper .few))
+
+  pub first-order : (orders : List ℕ) {row orders′ : List ℕ} → row ≡ identity n → orders′ ≡ over (orderOf (arcs row (G .starts) (G .ends)) n) orders
+      → take n orders′ ≡ orderOf (arcs (identity n) (G .starts) (G .ends)) n
+  first-order orders {row} e o = rw o (take-over (orderOf (arcs row (G .starts) (G .ends)) n) orders n (first-whole e) ∙ rw e)
+
+  -- the orders are as long as they were
+  pub ordered-room : {ladder froms tos widths sizes orders orders′ row : List ℕ} → row ≡ identity n → orders′ ≡ over (orderOf (arcs row (G .starts) (G .ends)) n) orders
+      → Room G ladder froms tos widths sizes orders → Room G ladder froms tos widths sizes orders′
+  ordered-room {orders = orders} {row = row} e o M =
+      record {
+        rows = M .rows;
+        from-room = M .from-room;
+        to-room = M .to-room;
+        width-room = M .width-room;
+        nine = M .nine;
+        order-room = rw (o, length-over (orderOf (arcs row (G .starts) (G .ends)) n) orders (omega (arith, first-whole e, M .order-room))) (M .order-room);
+      }

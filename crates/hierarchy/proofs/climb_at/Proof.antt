@@ -1,0 +1,44 @@
+use Prim.Native.Nat.{_+_, _*_}
+use mathlib.Core.Path.{_≡_, refl, sym, ap, _∙_}
+use native.Mathlib.Omega.{arith}
+use lib.Seq.{length-take-le}
+use lib.ListN.{length, take}
+use Rattle.row_lists.proofs.Carrying.{handed}
+use Rattle.hierarchy.proofs.Climbs.{rows-in}
+use Rattle.hierarchy.proofs.Handing.{place-few, id-length, identity-front}
+use Rattle.hierarchy.proofs.Stepping.{size-few, carries-handed, list-fits}
+use borrow.Author.Needs.{needs}
+use Rattle.hierarchy.proofs.climb_at.Statement.{statement}
+use Rattle.hierarchy.proofs.climb_at.Tie as tie
+
+pub climb-at-spec : {M : Type 1} → statement M
+climb-at-spec =
+    tie.close
+    (tie.spec
+    (λ c. search needs)
+    (λ c. search needs)
+    (λ c κs. search needs)
+    (λ c. search needs)
+    (λ c. search needs)
+    (λ c. search needs)
+    (λ c. let s = c .before .before .before .before .before .before .before .before .before .before .before .before in let p = s .pre in omega (arith, place-few (s .args .r) (length (s .args .starts .now)) (p .1 .1 .1 .0) (p .0 .0 .proper .many), c .wide .ensures, size-few (p .0 .0) (p .0 .1) (p .1 .0) (p .1 .1 .1 .3), p .0 .0 .proper .many))
+    (λ c. let s = c .before .before .before .before .before .before .before .before .before .before .before .before .before in let p = s .pre in sym (length-take-le _ _ (omega (arith, id-length 512 (p .1 .1 .1 .2), p .0 .0 .small))))
+    (λ c. search needs)
+    (λ c. search needs)
+    (λ c. search needs)
+    (λ c. let s = c .before .before .before .before .before .before .before .before .before .before .before .before .before in let p = s .pre in let q = list-fits (s .args .r) (length (s .args .starts .now)) _ (length (s .args .froms .now)) (c .before .wide .ensures) (size-few (p .0 .0) (p .0 .1) (p .1 .0) (p .1 .1 .1 .3)) (p .1 .0 .carried .lists .from-room) in search needs)
+    (λ c. search needs)
+    (λ c. search needs)
+    (λ c. search needs)
+    (λ c. let s = c .before .before .before .before .before .before .before .before .before .before .before .before .before .before in let p = s .pre in let q = list-fits (s .args .r) (length (s .args .starts .now)) _ (length (s .args .tos .now)) (c .before .before .wide .ensures) (size-few (p .0 .0) (p .0 .1) (p .1 .0) (p .1 .1 .1 .3)) (p .1 .0 .carried .lists .to-room) in search needs)
+    (λ c. search needs)
+    (λ c. search needs)
+    (λ c. search needs)
+    (λ c. let s = c .before .before .before .before .before .before .before .before .before .before .before .before .before .before .before in let p = s .pre in let q = list-fits (s .args .r) (length (s .args .starts .now)) _ (length (s .args .wides .now)) (c .before .before .before .wide .ensures) (size-few (p .0 .0) (p .0 .1) (p .1 .0) (p .1 .1 .1 .3)) (p .1 .0 .carried .lists .width-room) in search needs)
+    (λ c. let s = c .before .before .before .before .before .before .before .before .before .before .before .before .before .before .before .before in let p = s .pre in omega (arith, place-few (s .args .r) (length (s .args .costs .now)) (p .1 .1 .1 .0) (omega (arith, p .0 .0 .proper .few))))
+    (λ c. search needs)
+    (λ c. search needs)
+    (λ c. let s = c .before .before .before .before .before .before .before .before .before .before .before .before .before .before .before .before in let p = s .pre in let q = rows-in (s .args .r) (length (s .args .costs .now)) (length (s .args .orders .now)) (p .1 .1 .1 .0) (p .1 .1 .0 .order-room) in search needs)
+    (λ c κs. let s = c .before .before .before .before .before .before .before .before .before .before .before .before .before .before .before .before .before .before .before in let p = s .pre in let room = rows-in (s .args .r) (length (s .args .costs .now)) (length (s .args .orders .now)) (p .1 .1 .1 .0) (p .1 .1 .0 .order-room) in (p .0 .0, (carries-handed (p .0 .0) (p .0 .1) (p .1 .0) (p .1 .1 .1 .3) (c .before .before .before .before .before .before .before .wide .ensures) (omega (arith, room)), (ap (take (s .args .g)) (p .1 .1 .1 .2) ∙ identity-front _ 512 (p .0 .0 .small), ((p .1 .1 .1 .0, p .1 .1 .1 .1), p .1 .1 .0 .rows)))))
+    (λ c. search needs)
+    (λ c. search needs))

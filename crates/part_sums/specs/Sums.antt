@@ -1,0 +1,37 @@
+-- The record of part sums: what it holds, and what its methods answer.
+use Prim.Native.Nat.{ℕ, _+_, _-_, _≤_, _<_, _^_}
+use mathlib.Core.Path.{_≡_}
+use mathlib.Core.Bool.{Bool, _&&_}
+use mathlib.Core.List.{List}
+use lib.Dec.{ltb, leb}
+use lib.ListN.{length, getD, set}
+use Rattle.graph.specs.Graph.{partCost}
+use Rattle.part_sums.specs.declared.PartSums.{PartSums}
+
+-- the record is the sums of the table, for k parts
+pub record SumsOf (costs parts : List ℕ) (k : ℕ) (S : PartSums) : Type 0 where
+  pub counts : S .count ≡ k
+  pub long : length (S .sums) ≡ 16
+  pub is : (u : ℕ) → u < 16 → getD (S .sums) u 0 ≡ partCost costs parts u
+
+-- both halves of "allowed": the old part is not emptied, and the new one stays within the bound
+unfoldable pub sumsAllow : PartSums → ℕ → ℕ → ℕ → ℕ → Bool
+sumsAllow S from to cost bound = ltb cost (getD (S .sums) from 0) && leb (getD (S .sums) to 0 + cost) bound
+
+-- a cost that can go from one part to another
+pub record Shifts (S : PartSums) (from to cost : ℕ) : Type 0 where
+  pub from-in : from < 16
+  pub to-in : to < 16
+  pub held : cost ≤ getD (S .sums) from 0
+  pub fits : getD (S .sums) to 0 + cost < 2 ^ 32
+
+-- the record after a move
+unfoldable pub shifted : PartSums → ℕ → ℕ → ℕ → PartSums
+shifted S from to cost =
+    record { sums = set (set (S .sums) from (getD (S .sums) from 0 - cost)) to (getD (S .sums) to 0 + cost); count = S .count }
+
+-- r is that record: just two sums changed
+pub record Shifted (S : PartSums) (from to cost : ℕ) (r : PartSums) : Type 0 where
+  pub is : r ≡ shifted S from to cost
+  pub counts : r .count ≡ S .count
+  pub others : (u : ℕ) → (u ≡ from → ⊥) → (u ≡ to → ⊥) → getD (r .sums) u 0 ≡ getD (S .sums) u 0

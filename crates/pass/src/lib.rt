@@ -1,0 +1,173 @@
+// A pass over the clusters of a rung: each goes where an allowed candidate gains.
+ghost use mathlib.Core.Bool.{true};
+ghost use mathlib.Core.Path.{_≡_};
+ghost use Prim.Native.Nat.{_<_, _≤_, _^_};
+ghost use lib.ListN.{length, getD};
+ghost use Rattle.folds.specs.Fold.{turns};
+ghost use Rattle.visit.specs.Visit.{Placed, Listed, Indexed};
+ghost use Rattle.pass.specs.Work.{betterOf, backOf, Chosen, workOf, worked, Done};
+use part_sums::PartSums;
+
+// The sums, and the moves made so far.
+pub struct Progress {
+    pub sums: PartSums,
+    pub moves: usize,
+}
+
+// Part t, where it is allowed and the cluster is more tied to it than to the best part so far.
+fn better(
+    toward: &[u32; 16],
+    sums: PartSums,
+    own: usize,
+    t: usize,
+    best: usize,
+    cost: u32,
+    bound: u32,
+) -> usize
+    requires { ⌜ length (now toward) ≡ 16 ⌝ }
+    requires { ⌜ (own < 16) × (t < 16) × (best < 16) ⌝ }
+    ensures { λ r. ⌜ r ≡ betterOf (λ u. getD (now (toward .entry)) u 0) sums own cost bound true t best ⌝ }
+    ensures { λ r. ⌜ r < 16 ⌝ }
+{
+    if toward[t] <= toward[best] {
+        return best;
+    }
+    let allowed = sums.allows(own, t, cost, bound);
+    if allowed {
+        return t;
+    }
+    best
+}
+
+// The back candidate, where it gains and is allowed, or the cluster's own part.
+fn back(toward: &[u32; 16], sums: PartSums, own: usize, high: usize, cost: u32, bound: u32) -> usize
+    requires { ⌜ length (now toward) ≡ 16 ⌝ }
+    requires { ⌜ own < 16 ⌝ }
+    ensures { λ r. ⌜ r ≡ backOf (λ u. getD (now (toward .entry)) u 0) sums own cost bound high ⌝ }
+    ensures { λ r. ⌜ r < 16 ⌝ }
+{
+    if high == 0 {
+        return own;
+    }
+    if own < high {
+        return own;
+    }
+    better(toward, sums, own, high - 1, own, cost, bound)
+}
+
+// Where a cluster goes: of the allowed candidates the one that gains most, the back one where both gain the same, or its own part.
+fn choice(
+    toward: &[u32; 16],
+    sums: PartSums,
+    own: usize,
+    low: usize,
+    high: usize,
+    cost: u32,
+    bound: u32,
+) -> usize
+    requires { ⌜ length (now toward) ≡ 16 ⌝ }
+    requires { ⌜ (own < 16) × (sums .count ≤ 16) ⌝ }
+    ensures { λ r. ⌜ Chosen (λ u. getD (now (toward .entry)) u 0) sums own cost bound low high r ⌝ }
+{
+    let b = back(toward, sums, own, high, cost, bound);
+    if low <= own {
+        return b;
+    }
+    if sums.count <= low {
+        return b;
+    }
+    better(toward, sums, own, low, b, cost, bound)
+}
+
+// Visits cluster h, and moves it where an allowed candidate gains. The first pair of links is by the edges' starts, the second by their ends.
+fn refine_cluster(
+    from: &[u16],
+    to: &[u16],
+    widths: &[u32],
+    head: &[u16; 513],
+    next: &[u16; 1024],
+    head_in: &[u16; 513],
+    next_in: &[u16; 1024],
+    costs: &[u32; 512],
+    bound: u32,
+    h: usize,
+    table: &mut [u16; 512],
+    before: Progress,
+) -> Progress
+    requires { ⌜ Listed (now from) (now to) (now widths) ⌝ }
+    requires { ⌜ Indexed (now from) (now to) (now head) (now next) (now «head_in») (now «next_in») ⌝ }
+    requires { ⌜ Placed (now table) ⌝ }
+    requires { ⌜ (h < 512) × (length (now costs) ≡ 512) × (before .sums .count ≤ 16) × (before .moves < 2 ^ 33) ⌝ }
+    ensures { λ r. ⌜ Done (workOf (now (table .entry)) before) (workOf (now (table .exit)) r) 1 (worked (now (from .entry)) (now (to .entry)) (now (widths .entry)) (now (costs .entry)) bound h (workOf (now (table .entry)) before)) ⌝ }
+{
+    let sums = before.sums;
+    let own = visit::part_at(table, h);
+    let mut toward = [0u32; 16];
+    let span = visit::visit(
+        from,
+        to,
+        widths,
+        table,
+        head,
+        next,
+        head_in,
+        next_in,
+        h,
+        sums.count,
+        &mut toward,
+    );
+    let cost = costs[h];
+    let t = choice(&toward, sums, own, span.low, span.high, cost, bound);
+    if t == own {
+        return before;
+    }
+    table[h] = t as u16;
+    let after = sums.moved(own, t, cost);
+    Progress {
+        sums: after,
+        moves: before.moves + 1,
+    }
+}
+
+// A pass: visits the clusters below g in number order.
+pub fn pass(
+    from: &[u16],
+    to: &[u16],
+    widths: &[u32],
+    head: &[u16; 513],
+    next: &[u16; 1024],
+    head_in: &[u16; 513],
+    next_in: &[u16; 1024],
+    costs: &[u32; 512],
+    bound: u32,
+    g: usize,
+    table: &mut [u16; 512],
+    before: Progress,
+) -> Progress
+    requires { ⌜ Listed (now from) (now to) (now widths) ⌝ }
+    requires { ⌜ Indexed (now from) (now to) (now head) (now next) (now «head_in») (now «next_in») ⌝ }
+    requires { ⌜ Placed (now table) ⌝ }
+    requires { ⌜ (g ≤ 512) × (length (now costs) ≡ 512) × (before .sums .count ≤ 16) × (before .moves < 2 ^ 32) ⌝ }
+    ensures { λ r. ⌜ Done (workOf (now (table .entry)) before) (workOf (now (table .exit)) r) g (turns g (worked (now (from .entry)) (now (to .entry)) (now (widths .entry)) (now (costs .entry)) bound) (workOf (now (table .entry)) before)) ⌝ }
+{
+    let mut p = before;
+    let mut h: usize = 0;
+    while h < g {
+        p = refine_cluster(
+            from,
+            to,
+            widths,
+            head,
+            next,
+            head_in,
+            next_in,
+            costs,
+            bound,
+            h,
+            table,
+            p,
+        );
+        h += 1;
+    }
+    p
+}

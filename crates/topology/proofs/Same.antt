@@ -1,0 +1,77 @@
+-- Order and levels depend only on which clusters are joined, not on the edges that join them.
+use Prim.Native.Nat.{ℕ, zero, suc, _≤_, _<_}
+use mathlib.Core.Path.{_≡_, refl, sym, ap, _∙_}
+use mathlib.Core.Bool.{Bool, true, false, not, _&&_}
+use mathlib.Core.List.{List}
+use native.Mathlib.Omega.{arith}
+use lib.Dec.{eqb}
+use lib.ListN.{getD, set}
+use borrow.Author.Tests.{eqb-true, eqb-false, eq-eqb, ne-eqb}
+use Rattle.folds.specs.Fold.{when, anyTo, firstTo, maxTo, listTo, zeros}
+use Rattle.folds.proofs.Cases.{by, both, both-i, same-test, not-yes}
+use Rattle.folds.proofs.Searches.{any-i, any-e, firstTo-ext, max-ge, max-le}
+use Rattle.folds.proofs.Lists.{listTo-ext}
+use Rattle.graph.specs.Graph.{Arcs, edge, Edge}
+use Rattle.graph.proofs.Edges.{arc-edge, edge-arc, edge-other}
+use Rattle.topology.specs.Order.{waits, ready, orNone, orderFrom, orderOf}
+use Rattle.topology.specs.Level.{rise, levelsAfter, levelsOf}
+
+-- the same clusters are joined
+abbrev pub Same : Arcs → Arcs → Type 0
+Same A B = (a b : ℕ) → edge A a b ≡ edge B a b
+
+-- an edge of A into v is one of B
+moved : (A B : Arcs) → Same A B → (v j : ℕ) → j < A .count → A .to j ≡ v → (A .from j ≡ v → ⊥) → (i : ℕ) × (i < B .count) × (B .from i ≡ A .from j) × (B .to i ≡ v)
+moved A B S v j l e n =
+    let t : Edge A (A .from j) v = rw e at (arc-edge A j l (λ z. n (z ∙ e))) in
+    edge-arc B (A .from j) v (sym (S (A .from j) v) ∙ t)
+
+waits-there : (A B : Arcs) → Same A B → (marks : List ℕ) (v : ℕ) → anyTo (A .count) (waits A marks v) ≡ true → anyTo (B .count) (waits B marks v) ≡ true
+unfolding waits
+waits-there A B S marks v t =
+    let (j, l, w) = any-e (A .count) _ t in
+    let (p, q) = both (eqb (A .to j) v) _ w in
+    let (r, s) = both (not (eqb (A .from j) v)) _ q in
+    let (i, li, ef, et) = moved A B S v j l (eqb-true (A .to j) v p) (eqb-false (A .from j) v (not-yes _ r)) in
+    any-i (B .count) _ i li (rw (ef, et, eq-eqb v v refl, r) s)
+
+-- the topological order
+ready-same : (A B : Arcs) → Same A B → (marks : List ℕ) (v : ℕ) → ready A marks v ≡ ready B marks v
+unfolding ready
+ready-same A B S marks v =
+    ap (λ (t : Bool). eqb (getD marks v 0) 0 && not t) (same-test _ _ (waits-there A B S marks v) (waits-there B A (λ a b. sym (S a b)) marks v))
+
+from-same : (A B : Arcs) → Same A B → (g k : ℕ) (marks : List ℕ) → orderFrom A g k marks ≡ orderFrom B g k marks
+unfolding orderFrom
+from-same A B S g zero marks = refl
+from-same A B S g (suc k) marks =
+    rw (firstTo-ext g (ready A marks) (ready B marks) (λ v _. ready-same A B S marks v))
+    (ap (orNone (firstTo g (ready B marks)) g) (from-same A B S g k (set marks (firstTo g (ready B marks)) 1)))
+
+pub order-same : (A B : Arcs) → Same A B → (g : ℕ) → orderOf A g ≡ orderOf B g
+unfolding orderOf
+order-same A B S g = from-same A B S g g (zeros 512)
+
+-- levels
+rise-there : (A B : Arcs) → Same A B → (levels : List ℕ) (v : ℕ) → maxTo (A .count) (rise A levels v) ≤ maxTo (B .count) (rise B levels v)
+unfolding rise
+rise-there A B S levels v =
+    max-le (A .count) _ _ (λ j l.
+      by (eqb (A .to j) v && not (eqb (A .from j) v))
+      (λ t.
+      let (p, r) = both (eqb (A .to j) v) _ t in
+      let (i, li, ef, et) = moved A B S v j l (eqb-true (A .to j) v p) (eqb-false (A .from j) v (not-yes _ r)) in
+      let h = max-ge (B .count) (λ x. when (eqb (B .to x) v && not (eqb (B .from x) v)) (suc (getD levels (B .from x) 0))) i li in
+      rw t (rw (ef, et, eq-eqb v v refl, r) at h))
+      (λ t. rw t (omega arith)))
+
+after-same : (A B : Arcs) → Same A B → (g r : ℕ) → levelsAfter A g r ≡ levelsAfter B g r
+unfolding levelsAfter
+after-same A B S g zero = refl
+after-same A B S g (suc r) =
+    rw (after-same A B S g r)
+    (listTo-ext g _ _ (λ v _. omega (arith, rise-there A B S (levelsAfter B g r) v, rise-there B A (λ a b. sym (S a b)) (levelsAfter B g r) v)))
+
+pub levels-same : (A B : Arcs) → Same A B → (g : ℕ) → levelsOf A g ≡ levelsOf B g
+unfolding levelsOf
+levels-same A B S g = after-same A B S g g

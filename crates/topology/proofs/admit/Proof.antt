@@ -1,0 +1,12 @@
+use Rattle.folds.proofs.Cases.{cases}
+use borrow.Author.Needs.{needs}
+use Rattle.topology.proofs.admit.Statement.{statement}
+use Rattle.topology.proofs.admit.Tie as tie
+
+pub admit-spec : {M : Type 1} → statement M
+admit-spec =
+    tie.close
+    (tie.spec
+    (λ c κs. search needs)
+    (λ c. search cases)
+    (λ c. search cases))
