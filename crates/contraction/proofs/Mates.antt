@@ -40,8 +40,8 @@ keeps-disjoint {A} {g} {ps} K =
       same-from = λ i k l h e. either (eq-or-ne i k) (λ q. q) (λ n. absurd (K .two i k l h n .from-from e));
       same-to = λ i k l h e. either (eq-or-ne i k) (λ q. q) (λ n. absurd (K .two i k l h n .to-to e));
       from-to = λ i k l h e. either (eq-or-ne i k)
-        (λ q. edge-other A _ _ (K .one i l .joins) (e ∙ ap (λ (z : ℕ). pairAt ps z .to) (sym q)))
-        (λ n. K .two i k l h n .from-to e);
+          (λ q. edge-other A _ _ (K .one i l .joins) (e ∙ ap (λ (z : ℕ). pairAt ps z .to) (sym q)))
+          (λ n. K .two i k l h n .from-to e);
     }
 
 module _ (ps : Round) (D : Disjoint ps) where

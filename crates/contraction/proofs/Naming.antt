@@ -108,11 +108,11 @@ module _ (row mates : List ℕ) (S : Short row) (M : Mated mates) where
               let num : number row m d ≡ number row m c = ap (number row m) mc ∙ number-mate row m (M .back) c in
               rw (now-passed d low, num, q, getD-set-same (set names c x) (getD mates c 0) x 0 (rw (length-set names c x, N .tall) (M .low c lc))) number-c)
               (λ nq. getD-set-other (set names c x) (getD mates c 0) d x 0 nq
-                ∙ either (eq-or-ne d c)
-                  (λ q. rw (q, now-passed c e, getD-set-same names c x 0 (rw (N .tall) lc)) number-c)
-                  (λ nc. getD-set-other names c d x 0 nc ∙ N .is d ld
-                    ∙ ap (λ (b : Bool). when b (suc (number row m d)))
-                      (sym (passed d (λ q. either (lowest-apart row m (M .back) c d (omega arith) (omega arith) (e ∙ sym q)) nc (λ k. nq (k ∙ mate-at M lc)))))))
+              ∙ either (eq-or-ne d c)
+              (λ q. rw (q, now-passed c e, getD-set-same names c x 0 (rw (N .tall) lc)) number-c)
+              (λ nc. getD-set-other names c d x 0 nc ∙ N .is d ld
+              ∙ ap (λ (b : Bool). when b (suc (number row m d)))
+              (sym (passed d (λ q. either (lowest-apart row m (M .back) c d (omega arith) (omega arith) (e ∙ sym q)) nc (λ k. nq (k ∙ mate-at M lc)))))))
 
   -- the same at the code's cluster, and what is then written for v
   pub name-turn : {v c b count r : ℕ} {names names′ : List ℕ} → v < length row → Read row v b c → Numbering row m v names count
@@ -130,7 +130,7 @@ module _ (row mates : List ℕ) (S : Short row) (M : Mated mates) where
   joined-end {v} {count} {names} {out₀} {out} l g N F =
       let e : v ≡ length row = omega arith in
       let q : joinedRow row m ≡ listTo v (λ w. number row m (getD row w 0)) =
-        listed (joinedRow row m) v (λ w. number row m (getD row w 0)) (length-next row m ∙ sym e) (λ w lw. next-at row m w (omega arith)) in
+      listed (joinedRow row m) v (λ w. number row m (getD row w 0)) (length-next row m ∙ sym e) (λ w lw. next-at row m w (omega arith)) in
       record {
         count-is = N .counts ∙ ap (λ (z : ℕ). countTo z (leads (lowestOf row m))) e ∙ sym (next-clusters row m (M .back));
         row-is = filled-end F ∙ ap (λ (z : List ℕ). over z out₀) (sym q);
@@ -149,8 +149,8 @@ mapped-turn {row} {map} {f} {v} {c} {b} {x} M k l e =
     record {
       tall = length-set map c x ∙ M .tall;
       is = λ w lw. either (eq-or-ne (getD row w 0) c)
-        (λ q. rw (q, getD-set-same map c x 0 (omega (arith, M .tall))) (e ∙ ap f (sym (k .is))))
-        (λ n. getD-set-other map c (getD row w 0) x 0 n ∙ M .is w (omega (arith, at-other w lw n)));
+          (λ q. rw (q, getD-set-same map c x 0 (omega (arith, M .tall))) (e ∙ ap f (sym (k .is))))
+          (λ n. getD-set-other map c (getD row w 0) x 0 n ∙ M .is w (omega (arith, at-other w lw n)));
     }
   where
     at-other : (w : ℕ) → w < v + 1 → (getD row w 0 ≡ c → ⊥) → w < v

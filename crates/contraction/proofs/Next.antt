@@ -141,7 +141,7 @@ module _ (row : List ℕ) (m : ℕ → ℕ) where
     unfolding together
     next-joins v w lv lw = (
       (λ e. either (number-apart _ _ v w lv lw refl refl (sym (next-at v lv) ∙ e ∙ next-at w lw))
-        (λ q. or-l (eqb (getD row w 0) (getD row v 0)) _ (eq-eqb _ _ q)) (λ q. or-r (eqb (getD row w 0) (getD row v 0)) _ (eq-eqb _ _ q))),
+          (λ q. or-l (eqb (getD row w 0) (getD row v 0)) _ (eq-eqb _ _ q)) (λ q. or-r (eqb (getD row w 0) (getD row v 0)) _ (eq-eqb _ _ q))),
       (λ t. next-at v lv ∙ sym (either (together-e m (getD row w 0) (getD row v 0) t) (λ q. ap (number row m) q) (λ q. ap (number row m) q ∙ number-mate (getD row v 0))) ∙ sym (next-at w lw)),
     )
 

@@ -39,7 +39,6 @@ unfolding clusters
 identity-clusters zero = rw (identity-length 0) (max-zero _)
 identity-clusters (suc n) = go (length (identity (suc n))) (identity-length (suc n))
   where
-
     go : (m : ℕ) → m ≡ suc n → maxTo m (λ v. suc (getD (identity (suc n)) v 0)) ≡ suc n
     go m e =
         let f : ℕ → ℕ = λ v. suc (getD (identity (suc n)) v 0) in
@@ -99,9 +98,9 @@ kept-hierarchy G F ac rs K top =
       onto = λ r l c h. let (v, lv, e) = S r .onto c h in (v, rw (S r .row-of .whole) at lv, e);
       acyclic = λ r l. S r .acyclic;
       refines = λ r l a b la lb e.
-        either (row-step (identity (vertices G)) rs r)
-        (λ q. rw q e)
-        (λ (ps, q). rw (q, next-at (rows r) (mateOf ps) a (rw (S r .row-of .whole) la), next-at (rows r) (mateOf ps) b (rw (S r .row-of .whole) lb), e));
+          either (row-step (identity (vertices G)) rs r)
+          (λ q. rw q e)
+          (λ (ps, q). rw (q, next-at (rows r) (mateOf ps) a (rw (S r .row-of .whole) la), next-at (rows r) (mateOf ps) b (rw (S r .row-of .whole) lb), e));
     }
   where
     rows : ℕ → List ℕ

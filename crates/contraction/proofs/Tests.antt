@@ -160,8 +160,8 @@ module _ (A : Arcs) (g : ℕ) (inside : Inside A g) where
       both-i (ruleOne A L g p && allOf (λ q. ruleTwo A L g p q && ruleTwo A L g q p) ps) (keeps A L g ps)
       (both-i (ruleOne A L g p) _ (tested-one p (K .one 0 (omega arith)))
       (all-of-i _ ps (λ i l. both-i (ruleTwo A L g p (pairAt ps i)) _
-        (tested-two p (pairAt ps i) (K .two 0 (suc i) (omega arith) (omega arith) (λ e. omega arith)))
-        (tested-two (pairAt ps i) p (K .two (suc i) 0 (omega arith) (omega arith) (λ e. omega arith))))))
+      (tested-two p (pairAt ps i) (K .two 0 (suc i) (omega arith) (omega arith) (λ e. omega arith)))
+      (tested-two (pairAt ps i) p (K .two (suc i) 0 (omega arith) (omega arith) (λ e. omega arith))))))
       (tested-keeps ps (record {
         one = λ i l. K .one (suc i) (omega arith);
         two = λ i k l h n. K .two (suc i) (suc k) (omega arith) (omega arith) (λ e. n (omega arith));

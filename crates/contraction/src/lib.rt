@@ -22,7 +22,12 @@ fn name(mates: &[u16; 512], c: usize, count: usize, names: &mut [u16; 512]) -> u
 
 // The row that joining each cluster with its mate leaves, numbered in the order of lowest vertices, and the new number of each cluster.
 // Answers how many clusters it has.
-pub fn next_row(row: &[u16], mates: &[u16; 512], map: &mut [u16; 512], out: &mut [u16; 512]) -> usize
+pub fn next_row(
+    row: &[u16],
+    mates: &[u16; 512],
+    map: &mut [u16; 512],
+    out: &mut [u16; 512],
+) -> usize
     requires { ⌜ Short (now row) × Mated (now mates) ⌝ }
     requires { ⌜ length (now out) ≡ 512 ⌝ }
     ensures { λ r. ⌜ Joined (now (row .entry)) (mateIn (now (mates .entry))) (now (out .entry)) (now (out .exit)) r ⌝ }

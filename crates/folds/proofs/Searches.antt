@@ -160,8 +160,8 @@ unfolding countTo
 count-none n p =
     by (anyTo n p)
     (λ t. let (k, l, e) = any-e n p t in
-      let m : when (p k) 1 ≤ sumTo n (λ i. when (p i) 1) = sumTo-member n (λ i. when (p i) 1) k l in
-      rw t (ne-eqb (sumTo n (λ i. when (p i) 1)) 0 (λ z. let w = rw e at m in omega arith)))
+    let m : when (p k) 1 ≤ sumTo n (λ i. when (p i) 1) = sumTo-member n (λ i. when (p i) 1) k l in
+    rw t (ne-eqb (sumTo n (λ i. when (p i) 1)) 0 (λ z. let w = rw e at m in omega arith)))
     (λ t. rw t (eq-eqb (sumTo n (λ i. when (p i) 1)) 0 (sumTo-none n _ (λ k l. rw (any-none n p t k l)))))
 
 -- the largest

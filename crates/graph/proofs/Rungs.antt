@@ -37,9 +37,9 @@ module _ (G : Graph) (row table : List ℕ) (g : ℕ) (F : Formed G) (R : RowOf 
       sumTo-ext g _ _ (λ a _. sym (sumTo-when (vertices G) (eqb (getD table a 0) u) (λ v. when (eqb (getD row v 0) a) (getD (G .costs) v 0))))
       ∙ sumTo-swap g (vertices G) (λ a v. when (eqb (getD table a 0) u) (when (eqb (getD row v 0) a) (getD (G .costs) v 0)))
       ∙ sumTo-ext (vertices G) _ _ (λ v l.
-        sumTo-ext g _ _ (λ a _. when-swap (eqb (getD table a 0) u) (eqb (getD row v 0) a) (getD (G .costs) v 0))
-        ∙ sumTo-only g (getD row v 0) (λ a. when (eqb (getD table a 0) u) (getD (G .costs) v 0)) (R .below v l)
-        ∙ rw (through-at row table v (rw (R .whole) l)))
+      sumTo-ext g _ _ (λ a _. when-swap (eqb (getD table a 0) u) (eqb (getD row v 0) a) (getD (G .costs) v 0))
+      ∙ sumTo-only g (getD row v 0) (λ a. when (eqb (getD table a 0) u) (getD (G .costs) v 0)) (R .below v l)
+      ∙ rw (through-at row table v (rw (R .whole) l)))
 
   -- one edge's share of the rung's cut
   share : ℕ → ℕ → ℕ → ℕ

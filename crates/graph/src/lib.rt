@@ -44,7 +44,13 @@ fn leaves(row: &[u16], near: &[u16], far: &[u16], j: usize) -> usize
 }
 
 // Fills the lists of the edges that leave a cluster, by the cluster of their near end, from the last edge down.
-pub fn fill_leaving(row: &[u16], near: &[u16], far: &[u16], head: &mut [u16; 513], next: &mut [u16; 1024])
+pub fn fill_leaving(
+    row: &[u16],
+    near: &[u16],
+    far: &[u16],
+    head: &mut [u16; 513],
+    next: &mut [u16; 1024],
+)
     requires { ⌜ Joins (now row) (now near) (now far) ⌝ }
     requires { ⌜ length (now next) ≡ 1024 ⌝ }
     ensures { λ _. ⌜ Linked (leave (arcs (now (row .entry)) (now (near .entry)) (now (far .entry)))) (length (now (near .entry))) (now (head .exit)) (now (next .exit)) ⌝ }

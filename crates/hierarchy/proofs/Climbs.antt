@@ -54,9 +54,9 @@ module _ {G : Graph} {row : List ℕ} {g : ℕ} (bound : ℕ) (R : Ready G row g
   tried-renamed {mates} {out} {out′} {map} M J N =
       let m = roundOf G bound row in
       let e : joinedRow row (mateIn mates) ≡ nextRow row m =
-        sym (take-over (joinedRow row (mateIn mates)) out (length row) (length-next row (mateIn mates)))
-        ∙ ap (take (length row)) (sym (J .row-is) ∙ tried-round M J .row-is)
-        ∙ take-over (nextRow row m) out (length row) (length-next row (mateOf m)) in
+      sym (take-over (joinedRow row (mateIn mates)) out (length row) (length-next row (mateIn mates)))
+      ∙ ap (take (length row)) (sym (J .row-is) ∙ tried-round M J .row-is)
+      ∙ take-over (nextRow row m) out (length row) (length-next row (mateOf m)) in
       record { tall = N .tall; is = λ v l. N .is v l ∙ ap (λ (l : List ℕ). getD l v 0) e }
 
   pub next-few : clusters (nextRow row (roundOf G bound row)) ≤ length row

@@ -9,7 +9,6 @@ use lib.Seq.{take-at, drop-at, drop-drop}
 use Rattle.folds.specs.Fold.{part, over}
 use Rattle.hierarchy.specs.Climb.{flat}
 
-
 pub length-flat : (n : ℕ) (rows : List (List ℕ)) → ((r : ℕ) → r < length rows → length (getD rows r []) ≡ n) → length (flat rows) ≡ length rows * n
 unfolding flat
 length-flat n [] h = omega arith

@@ -180,7 +180,7 @@ module _ (G : Graph) (k bound : ℕ) (B : Buildable G k) (ladder₀ : List ℕ) 
           → Wrote ladder₀ (put ladder (r * n + n) next) ((r + 1) * n + n) (flat (above G k bound (8 - (r + 1)) next)) (flat (rowsOf G k bound))
       next-wrote t =
           let rest : flat (above G k bound (8 - r) row) ≡ next ++ flat (above G k bound (8 - (r + 1)) next) =
-            ap (λ (f : ℕ). flat (above G k bound f row)) fuel ∙ ap flat (kept-yes G k bound (8 - (r + 1)) row t) ∙ flat-cons next (above G k bound (8 - (r + 1)) next) in
+          ap (λ (f : ℕ). flat (above G k bound f row)) fuel ∙ ap flat (kept-yes G k bound (8 - (r + 1)) row t) ∙ flat-cons next (above G k bound (8 - (r + 1)) next) in
           let w = wrote-part next (rw rest at (C .wrote)) inside in
           let e : r * n + n + length next ≡ (r + 1) * n + n = omega (arith, next-length, place) in
           rw e at w

@@ -94,9 +94,18 @@ module _ (G : Graph) (k : ℕ) (B : Buildable G k) where
             width-room = omega (arith, K .width-room);
             few = λ r l. let q : r ≡ 0 = omega arith in rw (q, z) (omega arith);
             is = λ r l. let q : r ≡ 0 = omega arith in
-              rw (q, e, identity-clusters n, z, F .froms-are, F .tos-are, F .widths-are, front froms (G .starts) from-room,
-                rw (B .proper .formed .same-ends) at (front tos (G .ends) (omega (arith, to-room, B .proper .formed .same-ends))),
-                rw (B .proper .formed .same-widths) at (front widths (G .widths) (omega (arith, width-room, B .proper .formed .same-widths)))) (own-lists narrow);
+                rw (
+                  q,
+                  e,
+                  identity-clusters n,
+                  z,
+                  F .froms-are,
+                  F .tos-are,
+                  F .widths-are,
+                  front froms (G .starts) from-room,
+                  rw (B .proper .formed .same-ends) at (front tos (G .ends) (omega (arith, to-room, B .proper .formed .same-ends))),
+                  rw (B .proper .formed .same-widths) at (front widths (G .widths) (omega (arith, width-room, B .proper .formed .same-widths))),
+                ) (own-lists narrow);
           };
           nine = K .nine;
           long = omega (arith, M .order-room);

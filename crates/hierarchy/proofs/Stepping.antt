@@ -162,7 +162,7 @@ module _ {G : Graph} {ladder : List ℕ} {r g : ℕ} {froms tos widths sizes ord
       order-length =
           ap length order-is
           ∙ order-all (seen G next) (clusters next) (row-inside (P .formed) next-row) (omega (arith, next-low, P .few))
-            (next-sound G row (roundOf G bound row) (P .formed) S (round-keeps G bound row (P .formed) (S .row-of)) .acyclic)
+          (next-sound G row (roundOf G bound row) (P .formed) S (round-keeps G bound row (P .formed) (S .row-of)) .acyclic)
 
       order-fits : r * n + n + n ≤ length orders
       order-fits = rows-in r n (length orders) lr (M .order-room)
@@ -186,7 +186,7 @@ module _ {G : Graph} {ladder : List ℕ} {r g : ℕ} {froms tos widths sizes ord
           record {
             carried = record {
               lists = rw (H .next .froms-are, H .next .tos-are, H .next .widths-are, H .sizes-are)
-                (stored-more (C .carried .lists) lr row-old (M .nine) (omega (arith, H .next .few, size-few)) (omega (arith, place, M .from-room)) (omega (arith, place, M .to-room)) (omega (arith, place, M .width-room)) (rw row-new joined) (H .next .counts));
+                  (stored-more (C .carried .lists) lr row-old (M .nine) (omega (arith, H .next .few, size-few)) (omega (arith, place, M .from-room)) (omega (arith, place, M .to-room)) (omega (arith, place, M .width-room)) (rw row-new joined) (H .next .counts));
               nine = rw (H .sizes-are, length-set sizes (r + 1) (H .count)) (M .nine);
               long = rw (H .orders-are, length-put orders (r * n + n) placed (omega (arith, placed-length, order-fits))) (omega (arith, suc-mul (r + 1) n, next-of r n, order-fits));
               order = λ q l. either (eq-or-ne q (r + 1)) (λ z. rw (z, row-new) new-order) (λ z. rw (row-old q (omega arith)) (old-order q (omega arith)));

@@ -91,10 +91,13 @@ module _ {G : Graph} {rows rows′ : ℕ → List ℕ} {r m count : ℕ} {froms 
       old q l =
           let h = row-before q r m l in
           let s = S .few q l in
-          rw (size-old q l, same q l,
+          rw (
+            size-old q l,
+            same q l,
             part-before froms from (r * m + m) (q * m) (getD sizes q 0) (omega arith) (omega arith),
             part-before tos to (r * m + m) (q * m) (getD sizes q 0) (omega (arith, lt)) (omega arith),
-            part-before widths width (r * m + m) (q * m) (getD sizes q 0) (omega (arith, lw)) (omega arith)) (S .is q l)
+            part-before widths width (r * m + m) (q * m) (getD sizes q 0) (omega (arith, lw)) (omega arith),
+          ) (S .is q l)
 
 -- the costs of all clusters are those of all vertices
 pub costs-total : (G : Graph) (row : List ℕ) (g : ℕ) → RowOf G row g → sumTo g (partCost (G .costs) row) ≡ sumTo (vertices G) (λ v. getD (G .costs) v 0)

@@ -56,7 +56,7 @@ module _ (G : Graph) (k bound : ℕ) where
   run (suc f) row =
       by (large k row)
       (λ t. by (poor row (roundOf G bound row)) (λ p. (roundOf G bound row ∷ [], rw (dropped-row f row p) (drops t p)))
-        (λ p. let (rs, R) = run f (nextOf row) in (roundOf G bound row ∷ rs, rw (kept-row f row t p) (keeps t p R))))
+      (λ p. let (rs, R) = run f (nextOf row) in (roundOf G bound row ∷ rs, rw (kept-row f row t p) (keeps t p R))))
       (λ t. ([], rw (small-row f row t) (ends t)))
 
   -- the rounds tried keep the rules

@@ -17,7 +17,23 @@ pub struct Outcome {
 }
 
 // A round on a row of g clusters, by its lists: the next row in the front of out, and the new number of each cluster in map.
-fn try_round(costs: &[u16], row: &[u16], starts: &[u16], ends: &[u16], widths: &[u16], id: &[u16], weights: &[u32; 512], from: &[u16], to: &[u16], width: &[u32], order: &[u16], g: usize, bound: u32, map: &mut [u16; 512], out: &mut [u16; 512]) -> Outcome
+fn try_round(
+    costs: &[u16],
+    row: &[u16],
+    starts: &[u16],
+    ends: &[u16],
+    widths: &[u16],
+    id: &[u16],
+    weights: &[u32; 512],
+    from: &[u16],
+    to: &[u16],
+    width: &[u32],
+    order: &[u16],
+    g: usize,
+    bound: u32,
+    map: &mut [u16; 512],
+    out: &mut [u16; 512],
+) -> Outcome
     requires { ⌜ Ready (graphOf (now costs) (now starts) (now ends) (now widths)) (now row) g ⌝ }
     requires { ⌜ Carries (graphOf (now costs) (now starts) (now ends) (now widths)) (now row) g (now weights) (now from) (now to) (now width) (now order) ⌝ }
     requires { ⌜ (now id ≡ identity g) × (length (now out) ≡ 512) ⌝ }
@@ -27,7 +43,10 @@ fn try_round(costs: &[u16], row: &[u16], starts: &[u16], ends: &[u16], widths: &
     let mut mates = [0; 512];
     let pairs = matching::round(weights, id, from, to, width, order, g, bound, &mut mates);
     let clusters = contraction::next_row(row, &mates, map, out);
-    Outcome { pairs: pairs, clusters: clusters }
+    Outcome {
+        pairs: pairs,
+        clusters: clusters,
+    }
 }
 
 // The front of an array into a row.
@@ -55,7 +74,24 @@ fn first_row(row: &mut [u16])
 }
 
 // A round on row r, whose row follows it where the round is kept. Answers its clusters, or 0 where no round was kept.
-fn climb(costs: &[u16], starts: &[u16], ends: &[u16], widths: &[u16], k: usize, bound: u32, id: &[u16], weights: &[u32; 512], from: &[u16], to: &[u16], width: &[u32], order: &[u16], map: &mut [u16; 512], ladder: &mut [u16], r: usize, g: usize) -> usize
+fn climb(
+    costs: &[u16],
+    starts: &[u16],
+    ends: &[u16],
+    widths: &[u16],
+    k: usize,
+    bound: u32,
+    id: &[u16],
+    weights: &[u32; 512],
+    from: &[u16],
+    to: &[u16],
+    width: &[u32],
+    order: &[u16],
+    map: &mut [u16; 512],
+    ladder: &mut [u16],
+    r: usize,
+    g: usize,
+) -> usize
     requires { ⌜ Ready (graphOf (now costs) (now starts) (now ends) (now widths)) (rowAt (graphOf (now costs) (now starts) (now ends) (now widths)) (now ladder) r) g ⌝ }
     requires { ⌜ Carries (graphOf (now costs) (now starts) (now ends) (now widths)) (rowAt (graphOf (now costs) (now starts) (now ends) (now widths)) (now ladder) r) g (now weights) (now from) (now to) (now width) (now order) ⌝ }
     requires { ⌜ now id ≡ identity g ⌝ }
@@ -71,7 +107,23 @@ fn climb(costs: &[u16], starts: &[u16], ends: &[u16], widths: &[u16], k: usize, 
     let b = a + n;
     let e = b + n;
     let mut out = [0; 512];
-    let t = try_round(costs, &ladder[a..b], starts, ends, widths, id, weights, from, to, width, order, g, bound, map, &mut out);
+    let t = try_round(
+        costs,
+        &ladder[a..b],
+        starts,
+        ends,
+        widths,
+        id,
+        weights,
+        from,
+        to,
+        width,
+        order,
+        g,
+        bound,
+        map,
+        &mut out,
+    );
     if 10 * t.pairs < g {
         return 0;
     }
@@ -80,7 +132,21 @@ fn climb(costs: &[u16], starts: &[u16], ends: &[u16], widths: &[u16], k: usize, 
 }
 
 // The lists, the costs and the order of row r + 1 after those of row r: map gives each of the g clusters its new number, one of h.
-fn hand_on(id: &[u16], map: &[u16; 512], n: usize, m: usize, r: usize, g: usize, h: usize, froms: &mut [u16], tos: &mut [u16], wides: &mut [u32], sizes: &mut [u16; 9], orders: &mut [u16], weights: &mut [u32; 512])
+fn hand_on(
+    id: &[u16],
+    map: &[u16; 512],
+    n: usize,
+    m: usize,
+    r: usize,
+    g: usize,
+    h: usize,
+    froms: &mut [u16],
+    tos: &mut [u16],
+    wides: &mut [u32],
+    sizes: &mut [u16; 9],
+    orders: &mut [u16],
+    weights: &mut [u32; 512],
+)
     requires { ⌜ Maps (now map) g h × (now id ≡ identity 512) × (h ≤ n) ⌝ }
     requires { ⌜ HandsOn n m r g (now froms) (now tos) (now wides) (now sizes) (now orders) (now weights) ⌝ }
     ensures { λ _. ⌜ HandedOn (now (map .entry)) n m r g h (now (froms .entry)) (now (tos .entry)) (now (wides .entry)) (now (sizes .entry)) (now (orders .entry)) (now (weights .entry)) (now (froms .exit)) (now (tos .exit)) (now (wides .exit)) (now (sizes .exit)) (now (orders .exit)) (now (weights .exit)) ⌝ }
@@ -97,7 +163,25 @@ fn hand_on(id: &[u16], map: &[u16; 512], n: usize, m: usize, r: usize, g: usize,
 }
 
 // The round on row r, by what is carried of it.
-fn climb_at(costs: &[u16], starts: &[u16], ends: &[u16], widths: &[u16], k: usize, bound: u32, id: &[u16], ladder: &mut [u16], froms: &[u16], tos: &[u16], wides: &[u32], sizes: &[u16; 9], orders: &[u16], weights: &[u32; 512], map: &mut [u16; 512], r: usize, g: usize) -> usize
+fn climb_at(
+    costs: &[u16],
+    starts: &[u16],
+    ends: &[u16],
+    widths: &[u16],
+    k: usize,
+    bound: u32,
+    id: &[u16],
+    ladder: &mut [u16],
+    froms: &[u16],
+    tos: &[u16],
+    wides: &[u32],
+    sizes: &[u16; 9],
+    orders: &[u16],
+    weights: &[u32; 512],
+    map: &mut [u16; 512],
+    r: usize,
+    g: usize,
+) -> usize
     requires { ⌜ Ready (graphOf (now costs) (now starts) (now ends) (now widths)) (rowAt (graphOf (now costs) (now starts) (now ends) (now widths)) (now ladder) r) g × Sound (graphOf (now costs) (now starts) (now ends) (now widths)) (rowAt (graphOf (now costs) (now starts) (now ends) (now widths)) (now ladder) r) ⌝ }
     requires { ⌜ Carrying (graphOf (now costs) (now starts) (now ends) (now widths)) (now ladder) r g (now froms) (now tos) (now wides) (now sizes) (now orders) (now weights) ⌝ }
     requires { ⌜ Room (graphOf (now costs) (now starts) (now ends) (now widths)) (now ladder) (now froms) (now tos) (now wides) (now sizes) (now orders) ⌝ }
@@ -110,12 +194,46 @@ fn climb_at(costs: &[u16], starts: &[u16], ends: &[u16], widths: &[u16], k: usiz
     let b = a + n;
     let c = r * starts.len();
     let d = c + size;
-    climb(costs, starts, ends, widths, k, bound, &id[..g], weights, &froms[c..d], &tos[c..d], &wides[c..d], &orders[a..b], map, ladder, r, g)
+    climb(
+        costs,
+        starts,
+        ends,
+        widths,
+        k,
+        bound,
+        &id[..g],
+        weights,
+        &froms[c..d],
+        &tos[c..d],
+        &wides[c..d],
+        &orders[a..b],
+        map,
+        ladder,
+        r,
+        g,
+    )
 }
 
 // A round on row r; where it is kept, what is carried of row r + 1 stands after what is carried of row r.
 // Answers the clusters of row r + 1, or 0 where no round was kept.
-fn step(costs: &[u16], starts: &[u16], ends: &[u16], widths: &[u16], k: usize, bound: u32, id: &[u16], ladder: &mut [u16], froms: &mut [u16], tos: &mut [u16], wides: &mut [u32], sizes: &mut [u16; 9], orders: &mut [u16], weights: &mut [u32; 512], r: usize, g: usize) -> usize
+fn step(
+    costs: &[u16],
+    starts: &[u16],
+    ends: &[u16],
+    widths: &[u16],
+    k: usize,
+    bound: u32,
+    id: &[u16],
+    ladder: &mut [u16],
+    froms: &mut [u16],
+    tos: &mut [u16],
+    wides: &mut [u32],
+    sizes: &mut [u16; 9],
+    orders: &mut [u16],
+    weights: &mut [u32; 512],
+    r: usize,
+    g: usize,
+) -> usize
     requires { ⌜ Ready (graphOf (now costs) (now starts) (now ends) (now widths)) (rowAt (graphOf (now costs) (now starts) (now ends) (now widths)) (now ladder) r) g × Sound (graphOf (now costs) (now starts) (now ends) (now widths)) (rowAt (graphOf (now costs) (now starts) (now ends) (now widths)) (now ladder) r) ⌝ }
     requires { ⌜ Carrying (graphOf (now costs) (now starts) (now ends) (now widths)) (now ladder) r g (now froms) (now tos) (now wides) (now sizes) (now orders) (now weights) ⌝ }
     requires { ⌜ Room (graphOf (now costs) (now starts) (now ends) (now widths)) (now ladder) (now froms) (now tos) (now wides) (now sizes) (now orders) ⌝ }
@@ -124,16 +242,61 @@ fn step(costs: &[u16], starts: &[u16], ends: &[u16], widths: &[u16], k: usize, b
     ensures { λ _. ⌜ Room (graphOf (now (costs .entry)) (now (starts .entry)) (now (ends .entry)) (now (widths .entry))) (now (ladder .exit)) (now (froms .exit)) (now (tos .exit)) (now (wides .exit)) (now (sizes .exit)) (now (orders .exit)) ⌝ }
 {
     let mut map = [0; 512];
-    let h = climb_at(costs, starts, ends, widths, k, bound, id, ladder, froms, tos, wides, sizes, orders, weights, &mut map, r, g);
+    let h = climb_at(
+        costs,
+        starts,
+        ends,
+        widths,
+        k,
+        bound,
+        id,
+        ladder,
+        froms,
+        tos,
+        wides,
+        sizes,
+        orders,
+        weights,
+        &mut map,
+        r,
+        g,
+    );
     if h == 0 {
         return 0;
     }
-    hand_on(id, &map, costs.len(), starts.len(), r, g, h, froms, tos, wides, sizes, orders, weights);
+    hand_on(
+        id,
+        &map,
+        costs.len(),
+        starts.len(),
+        r,
+        g,
+        h,
+        froms,
+        tos,
+        wides,
+        sizes,
+        orders,
+        weights,
+    );
     h
 }
 
 // The rounds above row 0, which stands in the front of the ladder, with what is carried of it. Answers how many were kept.
-fn rise(costs: &[u16], starts: &[u16], ends: &[u16], widths: &[u16], k: usize, bound: u32, ladder: &mut [u16], froms: &mut [u16], tos: &mut [u16], wides: &mut [u32], sizes: &mut [u16; 9], orders: &mut [u16]) -> usize
+fn rise(
+    costs: &[u16],
+    starts: &[u16],
+    ends: &[u16],
+    widths: &[u16],
+    k: usize,
+    bound: u32,
+    ladder: &mut [u16],
+    froms: &mut [u16],
+    tos: &mut [u16],
+    wides: &mut [u32],
+    sizes: &mut [u16; 9],
+    orders: &mut [u16],
+) -> usize
     requires { ⌜ Buildable (graphOf (now costs) (now starts) (now ends) (now widths)) k ⌝ }
     requires { ⌜ Room (graphOf (now costs) (now starts) (now ends) (now widths)) (now ladder) (now froms) (now tos) (now wides) (now sizes) (now orders) ⌝ }
     requires { ⌜ rowAt (graphOf (now costs) (now starts) (now ends) (now widths)) (now ladder) 0 ≡ identity (length (now costs)) ⌝ }
@@ -148,7 +311,24 @@ fn rise(costs: &[u16], starts: &[u16], ends: &[u16], widths: &[u16], k: usize, b
     let mut g = costs.len();
     let mut r: usize = 0;
     while r < 8 {
-        let h = step(costs, starts, ends, widths, k, bound, &id, ladder, froms, tos, wides, sizes, orders, &mut weights, r, g);
+        let h = step(
+            costs,
+            starts,
+            ends,
+            widths,
+            k,
+            bound,
+            &id,
+            ladder,
+            froms,
+            tos,
+            wides,
+            sizes,
+            orders,
+            &mut weights,
+            r,
+            g,
+        );
         if h == 0 {
             return r;
         }
@@ -160,7 +340,20 @@ fn rise(costs: &[u16], starts: &[u16], ends: &[u16], widths: &[u16], k: usize, b
 
 // Builds the hierarchy: rows 0 to the rounds kept, whose number it answers, with the lists and the order of each.
 // Entries past those rows are left alone.
-pub fn build(costs: &[u16], starts: &[u16], ends: &[u16], widths: &[u16], k: usize, bound: u32, ladder: &mut [u16], froms: &mut [u16], tos: &mut [u16], wides: &mut [u32], sizes: &mut [u16; 9], orders: &mut [u16]) -> usize
+pub fn build(
+    costs: &[u16],
+    starts: &[u16],
+    ends: &[u16],
+    widths: &[u16],
+    k: usize,
+    bound: u32,
+    ladder: &mut [u16],
+    froms: &mut [u16],
+    tos: &mut [u16],
+    wides: &mut [u32],
+    sizes: &mut [u16; 9],
+    orders: &mut [u16],
+) -> usize
     requires { ⌜ Buildable (graphOf (now costs) (now starts) (now ends) (now widths)) k ⌝ }
     requires { ⌜ Room (graphOf (now costs) (now starts) (now ends) (now widths)) (now ladder) (now froms) (now tos) (now wides) (now sizes) (now orders) ⌝ }
     ensures { λ x. ⌜ Built (graphOf (now (costs .entry)) (now (starts .entry)) (now (ends .entry)) (now (widths .entry))) k bound (now (ladder .entry)) (now (ladder .exit)) x ⌝ }
@@ -170,5 +363,18 @@ pub fn build(costs: &[u16], starts: &[u16], ends: &[u16], widths: &[u16], k: usi
     first_row(&mut ladder[0..n]);
     topology::order(&ladder[0..n], starts, ends, n, orders);
     row_lists::first(starts, ends, widths, froms, tos, wides, sizes);
-    rise(costs, starts, ends, widths, k, bound, ladder, froms, tos, wides, sizes, orders)
+    rise(
+        costs,
+        starts,
+        ends,
+        widths,
+        k,
+        bound,
+        ladder,
+        froms,
+        tos,
+        wides,
+        sizes,
+        orders,
+    )
 }

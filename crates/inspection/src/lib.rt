@@ -78,7 +78,14 @@ fn check_cycles(starts: &[u16], ends: &[u16], parts: &[u16], k: usize) -> Verdic
 }
 
 // Checks 10 to 13.
-pub fn check_table(costs: &[u16], starts: &[u16], ends: &[u16], parts: &[u16], k: usize, bound: u32) -> Verdict
+pub fn check_table(
+    costs: &[u16],
+    starts: &[u16],
+    ends: &[u16],
+    parts: &[u16],
+    k: usize,
+    bound: u32,
+) -> Verdict
     requires { ⌜ Tabled (now costs) (now starts) (now ends) (now parts) k ⌝ }
     ensures { λ r. ⌜ r ≡ tableOf (now (costs .entry)) (now (starts .entry)) (now (ends .entry)) k bound (now (parts .entry)) ⌝ }
 {
@@ -100,7 +107,14 @@ pub fn check_table(costs: &[u16], starts: &[u16], ends: &[u16], parts: &[u16], k
 }
 
 // The start order of a table that passed, and its cut.
-fn pass(starts: &[u16], ends: &[u16], widths: &[u16], parts: &[u16], k: usize, order: &mut [u16]) -> Inspected
+fn pass(
+    starts: &[u16],
+    ends: &[u16],
+    widths: &[u16],
+    parts: &[u16],
+    k: usize,
+    order: &mut [u16],
+) -> Inspected
     requires { ⌜ Joins (now parts) (now starts) (now ends) ⌝ }
     requires { ⌜ length (now widths) ≡ length (now starts) ⌝ }
     requires { ⌜ (k ≤ 16) × (k ≤ length (now order)) ⌝ }
@@ -121,7 +135,16 @@ fn enough(table: usize, n: usize, order: usize, k: usize) -> bool
 }
 
 // Document 01, inspection: checks 1 to 8, then 10 to 13; where all pass, the start order and the cut.
-pub fn inspect(costs: &[u16], starts: &[u16], ends: &[u16], widths: &[u16], k: usize, bound: u32, table: &[u16], order: &mut [u16]) -> Inspected
+pub fn inspect(
+    costs: &[u16],
+    starts: &[u16],
+    ends: &[u16],
+    widths: &[u16],
+    k: usize,
+    bound: u32,
+    table: &[u16],
+    order: &mut [u16],
+) -> Inspected
     ensures { λ r. ⌜ answerOf r ≡ inspectOf (graphOf (now (costs .entry)) (now (starts .entry)) (now (ends .entry)) (now (widths .entry))) k bound (now (table .entry)) (now (order .entry)) ⌝ }
     ensures { λ _. ⌜ now (order .exit) ≡ orderAfter (graphOf (now (costs .entry)) (now (starts .entry)) (now (ends .entry)) (now (widths .entry))) k bound (now (table .entry)) (now (order .entry)) ⌝ }
 {

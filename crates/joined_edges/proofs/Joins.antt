@@ -65,7 +65,7 @@ pub pair-more : (froms tos ws : List ℕ) (k u b w a d : ℕ) → k < length fro
 unfolding pairSum
 pair-more froms tos ws k u b w a d lf lt lw =
     let old : sumTo k (λ i. when (eqb (getD (set froms k u) i 0) a && eqb (getD (set tos k b) i 0) d) (getD (set ws k w) i 0)) ≡ sumTo k (λ i. when (eqb (getD froms i 0) a && eqb (getD tos i 0) d) (getD ws i 0)) =
-      sumTo-ext k _ _ (λ i l. rw (getD-set-other froms k i u 0 (λ e. omega arith), getD-set-other tos k i b 0 (λ e. omega arith), getD-set-other ws k i w 0 (λ e. omega arith))) in
+    sumTo-ext k _ _ (λ i l. rw (getD-set-other froms k i u 0 (λ e. omega arith), getD-set-other tos k i b 0 (λ e. omega arith), getD-set-other ws k i w 0 (λ e. omega arith))) in
     rw (sumTo-step k (λ i. when (eqb (getD (set froms k u) i 0) a && eqb (getD (set tos k b) i 0) d) (getD (set ws k w) i 0)), old, getD-set-same froms k u 0 lf, getD-set-same tos k b 0 lt, getD-set-same ws k w 0 lw)
 
 -- a list with one entry more, at what is listed
@@ -99,12 +99,12 @@ module _ {g u k b w : ℕ} {froms tos ws : List ℕ} (L : Listed g (u + 1) k fro
         from-in = λ i l. at-or froms k u (λ z. z < u + 1) kf l (λ h. L .from-in i h) (λ _. omega arith);
         to-in = λ i l. at-or tos k b (λ z. z < g) kt l (λ h. L .to-in i h) (λ _. lb);
         apart = λ i l. either (eq-or-ne i k)
-          (λ e. rw (e, getD-set-same froms k u 0 kf, getD-set-same tos k b 0 kt) n)
-          (λ e. rw (old-f i e, old-t i e) (L .apart i (omega arith)));
+            (λ e. rw (e, getD-set-same froms k u 0 kf, getD-set-same tos k b 0 kt) n)
+            (λ e. rw (old-f i e, old-t i e) (L .apart i (omega arith)));
         wide = λ i l. at-or ws k w (λ z. 0 < z) kw l (λ h. L .wide i h) (λ _. lw);
         once = λ i j l h. either (eq-or-ne j k)
-          (λ e. rw (e, getD-set-same froms k u 0 kf, getD-set-same tos k b 0 kt, old-f i (λ z. omega arith), old-t i (λ z. omega arith)) (new i (omega arith)))
-          (λ e. rw (old-f i (λ z. omega arith), old-t i (λ z. omega arith), old-f j e, old-t j e) (L .once i j l (omega arith)));
+            (λ e. rw (e, getD-set-same froms k u 0 kf, getD-set-same tos k b 0 kt, old-f i (λ z. omega arith), old-t i (λ z. omega arith)) (new i (omega arith)))
+            (λ e. rw (old-f i (λ z. omega arith), old-t i (λ z. omega arith), old-f j e, old-t j e) (L .once i j l (omega arith)));
       }
 
 module _ (A : Arcs) (widths : List ℕ) (g u : ℕ) {head next : List ℕ} (L : Linked (leave A) (A .count) head next) (lu : u < 512) where
@@ -139,10 +139,10 @@ module _ (A : Arcs) (widths : List ℕ) (g u : ℕ) {head next : List ℕ} (L : 
   unsent b n j lj =
       either (eq-or-ne (leave A j) u)
       (λ e. either (eq-or-ne (A .to j) b)
-        (λ q. by (ltb j (getD head u 0))
-          (λ t. absurd (L .heads u lu .skips j (omega arith) (ltb-true j _ t) e))
-          (λ t. absurd (n j (ltb-false j _ t) lj e q)))
-        (λ q. rw (eq-eqb (A .from j) u (leave-from A j e lu), ne-eqb (A .to j) b q)))
+      (λ q. by (ltb j (getD head u 0))
+      (λ t. absurd (L .heads u lu .skips j (omega arith) (ltb-true j _ t) e))
+      (λ t. absurd (n j (ltb-false j _ t) lj e q)))
+      (λ q. rw (eq-eqb (A .from j) u (leave-from A j e lu), ne-eqb (A .to j) b q)))
       (λ e. sent-only A widths u b j e)
 
   leaves-other : (j : ℕ) → leave A j ≡ u → A .from j ≡ A .to j → ⊥
@@ -170,8 +170,8 @@ module _ (A : Arcs) (widths : List ℕ) (g u : ℕ) {head next : List ℕ} (L : 
         spent = λ i l e. absurd (omega (arith, R .listed .from-in i l));
         done = λ b lb n. W .is b lb ∙ sumTo-none (A .count) (sent A widths u b) (λ j lj. unsent b n j lj);
         is = λ a b lb. either (eq-or-ne a u)
-          (λ e. rw (R .is a b lb, e, eq-eqb u u refl, le-ltb u u (omega arith), le-leb u u (omega arith)) (omega (arith, W .is b lb)))
-          (λ n. rw (R .is a b lb, ne-eqb a u n) (by (ltb a u)
+            (λ e. rw (R .is a b lb, e, eq-eqb u u refl, le-ltb u u (omega arith), le-leb u u (omega arith)) (omega (arith, W .is b lb)))
+            (λ n. rw (R .is a b lb, ne-eqb a u n) (by (ltb a u)
             (λ t. rw (t, le-leb a u (omega (arith, ltb-true a u t))) (omega arith))
             (λ t. rw (t, lt-leb a u (omega (arith, ltb-false a u t))))));
       }
@@ -201,11 +201,11 @@ module _ (A : Arcs) (widths : List ℕ) (g u : ℕ) {head next : List ℕ} (L : 
         tall = length-set sums b 0 ∙ W .tall;
         few = omega (arith, W .few, counted o l);
         spent = λ i li. either (eq-or-ne i k)
-          (λ e. rw (e, getD-set-same tos k b 0 (omega (arith, W .listed .tall-to)), getD-set-same sums b 0 0 room) (λ _. refl))
-          (λ e. rw (getD-set-other froms k i u 0 e, getD-set-other tos k i b 0 e) (λ q. cleared (getD tos i 0) (λ _. W .spent i (omega arith) q)));
+            (λ e. rw (e, getD-set-same tos k b 0 (omega (arith, W .listed .tall-to)), getD-set-same sums b 0 0 room) (λ _. refl))
+            (λ e. rw (getD-set-other froms k i u 0 e, getD-set-other tos k i b 0 e) (λ q. cleared (getD tos i 0) (λ _. W .spent i (omega arith) q)));
         done = done;
         is = λ a d ld. rw (pair-more froms tos ws k u b (getD sums b 0) a d (omega (arith, W .listed .tall-from)) (omega (arith, W .listed .tall-to)) (omega (arith, W .listed .tall-width)))
-          (shift a d ∙ W .is a d ld);
+            (shift a d ∙ W .is a d ld);
       }))
     where
       room : b < length sums
@@ -226,8 +226,8 @@ module _ (A : Arcs) (widths : List ℕ) (g u : ℕ) {head next : List ℕ} (L : 
       done : (d : ℕ) → d < 512 → ((i : ℕ) → getD next j 0 ≤ i → i < A .count → leave A i ≡ u → A .to i ≡ d → ⊥) → getD (set sums b 0) d 0 ≡ 0
       done d ld n =
           cleared d (λ ne. W .done d ld (λ i li h e q.
-            either (eq-or-ne i j) (λ z. ne (sym q ∙ ap (A .to) z ∙ sym eb))
-            (λ z. by (ltb i (getD next j 0)) (λ t. L .nexts j l .skips i (omega arith) (ltb-true i _ t) (e ∙ sym (o .at l))) (λ t. n i (ltb-false i _ t) h e q))))
+          either (eq-or-ne i j) (λ z. ne (sym q ∙ ap (A .to) z ∙ sym eb))
+          (λ z. by (ltb i (getD next j 0)) (λ t. L .nexts j l .skips i (omega arith) (ltb-true i _ t) (e ∙ sym (o .at l))) (λ t. n i (ltb-false i _ t) h e q))))
 
       same : getD sums b 0 ≡ 0 → (d : ℕ) → getD (set sums b 0) d 0 ≡ getD sums d 0
       same z d = either (eq-or-ne d b) (λ e. rw e (getD-set-same sums b 0 0 room ∙ sym z)) (λ n. getD-set-other sums b d 0 0 n)
@@ -237,19 +237,20 @@ module _ (A : Arcs) (widths : List ℕ) (g u : ℕ) {head next : List ℕ} (L : 
       shift a d =
           either (eq-or-ne a u)
           (λ e. either (eq-or-ne d b)
-            (λ q. rw (e, q, eq-eqb u u refl, eq-eqb b b refl, getD-set-same sums b 0 0 room) (omega arith))
-            (λ q. rw (e, eq-eqb u u refl, ne-eqb b d (λ z. q (sym z)), getD-set-other sums b d 0 0 q) (omega arith)))
+          (λ q. rw (e, q, eq-eqb u u refl, eq-eqb b b refl, getD-set-same sums b 0 0 room) (omega arith))
+          (λ q. rw (e, eq-eqb u u refl, ne-eqb b d (λ z. q (sym z)), getD-set-other sums b d 0 0 q) (omega arith)))
           (λ n. rw (ne-eqb a u n, ne-eqb u a (λ z. n (sym z))) (omega arith))
 
   pub writing-end : {j k : ℕ} {sums froms tos ws : List ℕ} → A .count ≤ j → j ≤ A .count → Writing A widths g u j k sums froms tos ws
       → Written A widths g (u + 1) k froms tos ws × (sums ≡ zeros 512)
-  writing-end {j} {k} {sums} lj hj W =
-      (record {
-        listed = W .listed;
-        few = omega (arith, W .few, both-counts, ap (λ (z : ℕ). sumTo z (λ i. when (eqb (leave A i) u) 1)) (let e : j ≡ A .count = omega arith in e));
-        is = λ a b lb. let h = rw (none b lb, when-zero (eqb a u), leb-is a) at (W .is a b lb) in omega arith;
-      },
-      ext-getD 0 sums (zeros 512) (W .tall ∙ sym (length-zeros 512)) (λ b lb. none b (omega (arith, W .tall)) ∙ sym (getD-zeros 512 b)))
+  writing-end {j} {k} {sums} lj hj W = (
+    record {
+      listed = W .listed;
+      few = omega (arith, W .few, both-counts, ap (λ (z : ℕ). sumTo z (λ i. when (eqb (leave A i) u) 1)) (let e : j ≡ A .count = omega arith in e));
+      is = λ a b lb. let h = rw (none b lb, when-zero (eqb a u), leb-is a) at (W .is a b lb) in omega arith;
+    },
+    ext-getD 0 sums (zeros 512) (W .tall ∙ sym (length-zeros 512)) (λ b lb. none b (omega (arith, W .tall)) ∙ sym (getD-zeros 512 b)),
+  )
     where
       none : (b : ℕ) → b < 512 → getD sums b 0 ≡ 0
       none b lb = W .done b lb (λ i li h e q. omega arith)

@@ -43,11 +43,11 @@ module _ (A : Arcs) (widths : List ℕ) (g : ℕ) (I : Inside A g) where
   between-width a b =
       either (eq-or-ne a b) (λ e. rw (eq-eqb a b e))
       (λ n. rw (ne-eqb a b n) (sumTo-ext (A .count) _ _ (λ j _.
-        by (eqb (A .from j) a && eqb (A .to j) b)
-        (λ t.
-        let (p, q) = both (eqb (A .from j) a) (eqb (A .to j) b) t in
-        rw (t, ne-eqb (A .from j) (A .to j) (λ z. n (sym (eqb-true (A .from j) a p) ∙ z ∙ eqb-true (A .to j) b q))))
-        (λ t. rw t))))
+      by (eqb (A .from j) a && eqb (A .to j) b)
+      (λ t.
+      let (p, q) = both (eqb (A .from j) a) (eqb (A .to j) b) t in
+      rw (t, ne-eqb (A .from j) (A .to j) (λ z. n (sym (eqb-true (A .from j) a p) ∙ z ∙ eqb-true (A .to j) b q))))
+      (λ t. rw t))))
 
   between-past : (a b : ℕ) → g ≤ a → between A widths a b ≡ 0
   unfolding between sent
@@ -113,7 +113,7 @@ module _ (row starts ends widths : List ℕ) {g k : ℕ} {froms tos ws : List �
   pair-width a b =
       ap (when (not (eqb a b)))
       (rw from-length (sumTo-ext k _ _ (λ i l.
-        rw (from-at i l, to-at i l, width-at i l, identity-at g (getD froms i 0) (W .listed .from-in i l), identity-at g (getD tos i 0) (W .listed .to-in i l)))))
+      rw (from-at i l, to-at i l, width-at i l, identity-at g (getD froms i 0) (W .listed .from-in i l), identity-at g (getD tos i 0) (W .listed .to-in i l)))))
 
   pub written-coarse : (costs : List ℕ) → Coarse (graphOf costs starts ends widths) row g (take k froms) (take k tos) (take k ws)
   written-coarse costs =

@@ -9,7 +9,16 @@ ghost use Rattle.graph.specs.Coarse.{Narrow};
 ghost use Rattle.joined_edges.specs.Joining.{Widths, Written, Put};
 
 // Adds the width of each edge that leaves u to the entry of the cluster it goes to.
-fn add_widths(row: &[u16], starts: &[u16], ends: &[u16], widths: &[u32], head: &[u16; 513], next: &[u16; 1024], u: usize, sums: &mut [u32; 512])
+fn add_widths(
+    row: &[u16],
+    starts: &[u16],
+    ends: &[u16],
+    widths: &[u32],
+    head: &[u16; 513],
+    next: &[u16; 1024],
+    u: usize,
+    sums: &mut [u32; 512],
+)
     requires { ⌜ Joins (now row) (now starts) (now ends) ⌝ }
     requires { ⌜ Linked (leave (arcs (now row) (now starts) (now ends))) (length (now starts)) (now head) (now next) ⌝ }
     requires { ⌜ (u < 512) × (length (now widths) ≡ length (now starts)) × Narrow (now widths) ⌝ }
@@ -26,7 +35,15 @@ fn add_widths(row: &[u16], starts: &[u16], ends: &[u16], widths: &[u32], head: &
 }
 
 // Lists an edge from u to b after the first k, with the sum of b, where that is not 0. Answers how many there are.
-fn put(u: usize, b: usize, k: usize, sums: &mut [u32; 512], from: &mut [u16; 1024], to: &mut [u16; 1024], width: &mut [u32; 1024]) -> usize
+fn put(
+    u: usize,
+    b: usize,
+    k: usize,
+    sums: &mut [u32; 512],
+    from: &mut [u16; 1024],
+    to: &mut [u16; 1024],
+    width: &mut [u32; 1024],
+) -> usize
     requires { ⌜ (u < 512) × (b < 512) × (k < 1024) ⌝ }
     ensures { λ r. ⌜ Put u b k (now (sums .entry)) (now (from .entry)) (now (to .entry)) (now (width .entry)) (now (sums .exit)) (now (from .exit)) (now (to .exit)) (now (width .exit)) r ⌝ }
 {
@@ -42,7 +59,21 @@ fn put(u: usize, b: usize, k: usize, sums: &mut [u32; 512], from: &mut [u16; 102
 }
 
 // Lists an edge for each cluster that edges of u go to, after the first n, and sets the sums back to 0. Answers how many there are.
-fn emit(row: &[u16], starts: &[u16], ends: &[u16], widths: &[u32], head: &[u16; 513], next: &[u16; 1024], g: usize, u: usize, n: usize, sums: &mut [u32; 512], from: &mut [u16; 1024], to: &mut [u16; 1024], width: &mut [u32; 1024]) -> usize
+fn emit(
+    row: &[u16],
+    starts: &[u16],
+    ends: &[u16],
+    widths: &[u32],
+    head: &[u16; 513],
+    next: &[u16; 1024],
+    g: usize,
+    u: usize,
+    n: usize,
+    sums: &mut [u32; 512],
+    from: &mut [u16; 1024],
+    to: &mut [u16; 1024],
+    width: &mut [u32; 1024],
+) -> usize
     requires { ⌜ Joins (now row) (now starts) (now ends) ⌝ }
     requires { ⌜ Linked (leave (arcs (now row) (now starts) (now ends))) (length (now starts)) (now head) (now next) ⌝ }
     requires { ⌜ (u < 512) × Inside (arcs (now row) (now starts) (now ends)) g ⌝ }
@@ -62,7 +93,16 @@ fn emit(row: &[u16], starts: &[u16], ends: &[u16], widths: &[u32], head: &[u16; 
 }
 
 // Lists the edges between the g clusters of a row, all from one to another as one with their summed width. Answers how many there are.
-pub fn join_edges(row: &[u16], starts: &[u16], ends: &[u16], widths: &[u32], g: usize, from: &mut [u16; 1024], to: &mut [u16; 1024], width: &mut [u32; 1024]) -> usize
+pub fn join_edges(
+    row: &[u16],
+    starts: &[u16],
+    ends: &[u16],
+    widths: &[u32],
+    g: usize,
+    from: &mut [u16; 1024],
+    to: &mut [u16; 1024],
+    width: &mut [u32; 1024],
+) -> usize
     requires { ⌜ Joins (now row) (now starts) (now ends) ⌝ }
     requires { ⌜ (g ≤ 512) × Inside (arcs (now row) (now starts) (now ends)) g ⌝ }
     requires { ⌜ (length (now widths) ≡ length (now starts)) × Narrow (now widths) ⌝ }
@@ -77,7 +117,21 @@ pub fn join_edges(row: &[u16], starts: &[u16], ends: &[u16], widths: &[u32], g: 
     let mut u: usize = 0;
     while u < g {
         add_widths(row, starts, ends, widths, &head, &next, u, &mut sums);
-        n = emit(row, starts, ends, widths, &head, &next, g, u, n, &mut sums, from, to, width);
+        n = emit(
+            row,
+            starts,
+            ends,
+            widths,
+            &head,
+            &next,
+            g,
+            u,
+            n,
+            &mut sums,
+            from,
+            to,
+            width,
+        );
         u += 1;
     }
     n

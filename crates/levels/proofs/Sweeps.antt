@@ -63,10 +63,10 @@ module _ (A : Arcs) (g : ℕ) (Y : Layered A g) where
   raised-is levels u b x v l =
       either (eq-or-ne b u) (λ e. inl (rw (eq-eqb b u e)))
       (λ n. by (ltb (getD levels b 0) x)
-        (λ t. either (eq-or-ne v b)
-          (λ e. inr (e, n, ltb-true _ _ t, rw (ne-eqb b u n, t, e) (getD-set-same levels b x 0 l)))
-          (λ ne. inl (rw (ne-eqb b u n, t) (getD-set-other levels b v x 0 ne))))
-        (λ t. inl (rw (ne-eqb b u n, t))))
+      (λ t. either (eq-or-ne v b)
+      (λ e. inr (e, n, ltb-true _ _ t, rw (ne-eqb b u n, t, e) (getD-set-same levels b x 0 l)))
+      (λ ne. inl (rw (ne-eqb b u n, t) (getD-set-other levels b v x 0 ne))))
+      (λ t. inl (rw (ne-eqb b u n, t))))
 
   raised-at : (levels : List ℕ) (u b x : ℕ) → b < length levels → (b ≡ u → ⊥) → x ≤ getD (raisedOf levels u b x) b 0
   unfolding raisedOf
@@ -112,10 +112,10 @@ module _ (A : Arcs) (g : ℕ) (Y : Layered A g) where
           by (ltb i j)
           (λ t. let c = R .counts i (ltb-true i j t) e n in either (raised-is levels u b x (A .to i) room) (λ q. omega arith) (λ (ev, k, h, q). omega arith))
           (λ t. either (eq-or-ne i j)
-            (λ q.
-            let to : A .to i ≡ b = ap (A .to) q ∙ sym eb in
-            rw to (omega (arith, raised-at levels u b x room (λ z. n (to ∙ z)))))
-            (λ q. absurd (L .nexts j l .skips i (omega (arith, ltb-false i j t)) h (leave-at A i e n ∙ sym (o .at l)))))
+          (λ q.
+          let to : A .to i ≡ b = ap (A .to) q ∙ sym eb in
+          rw to (omega (arith, raised-at levels u b x room (λ z. n (to ∙ z)))))
+          (λ q. absurd (L .nexts j l .skips i (omega (arith, ltb-false i j t)) h (leave-at A i e n ∙ sym (o .at l)))))
 
   all : length (orderOf A g) ≡ g
   all = order-all A g (Y .inside) (Y .small) (Y .acyclic)
@@ -141,9 +141,9 @@ module _ (A : Arcs) (g : ℕ) (Y : Layered A g) where
       record {
         under = R .under;
         counts = λ a b t h.
-          either (eq-or-ne (placeIn (orderOf A g) a) i)
-          (λ q. mine a b t (at a b t q))
-          (λ q. omega (arith, S .counts a b t (omega arith), R .keeps b));
+            either (eq-or-ne (placeIn (orderOf A g) a) i)
+            (λ q. mine a b t (at a b t q))
+            (λ q. omega (arith, S .counts a b t (omega arith), R .keeps b));
       }
     where
       at : (a b : ℕ) → Edge A a b → placeIn (orderOf A g) a ≡ i → a ≡ u

@@ -22,7 +22,16 @@ fn lift(levels: &mut [u16; 512], u: usize, b: usize, x: u16)
 }
 
 // Raises what the edges of u go to above the level of u.
-fn raise(row: &[u16], starts: &[u16], ends: &[u16], head: &[u16; 513], next: &[u16; 1024], g: usize, u: usize, levels: &mut [u16; 512])
+fn raise(
+    row: &[u16],
+    starts: &[u16],
+    ends: &[u16],
+    head: &[u16; 513],
+    next: &[u16; 1024],
+    g: usize,
+    u: usize,
+    levels: &mut [u16; 512],
+)
     requires { ⌜ Joins (now row) (now starts) (now ends) ⌝ }
     requires { ⌜ Linked (leave (arcs (now row) (now starts) (now ends))) (length (now starts)) (now head) (now next) ⌝ }
     requires { ⌜ (u < g) × Layered (arcs (now row) (now starts) (now ends)) g ⌝ }
@@ -40,7 +49,16 @@ fn raise(row: &[u16], starts: &[u16], ends: &[u16], head: &[u16; 513], next: &[u
 }
 
 // The levels of the g clusters of a row, from their topological order.
-pub fn sweep(row: &[u16], starts: &[u16], ends: &[u16], head: &[u16; 513], next: &[u16; 1024], order: &[u16], g: usize, levels: &mut [u16; 512])
+pub fn sweep(
+    row: &[u16],
+    starts: &[u16],
+    ends: &[u16],
+    head: &[u16; 513],
+    next: &[u16; 1024],
+    order: &[u16],
+    g: usize,
+    levels: &mut [u16; 512],
+)
     requires { ⌜ Joins (now row) (now starts) (now ends) ⌝ }
     requires { ⌜ Linked (leave (arcs (now row) (now starts) (now ends))) (length (now starts)) (now head) (now next) ⌝ }
     requires { ⌜ Layered (arcs (now row) (now starts) (now ends)) g ⌝ }

@@ -57,16 +57,16 @@ sent-width A widths u b =
     same e j =
         either (eq-or-ne (A .from j) u)
         (λ p. either (eq-or-ne (A .to j) b)
-          (λ q. rw (eq-eqb (A .from j) (A .to j) (p ∙ e ∙ sym q), eq-eqb (A .from j) u p, eq-eqb (A .to j) b q))
-          (λ q. rw (eq-eqb (A .from j) u p, ne-eqb (A .to j) b q)))
+        (λ q. rw (eq-eqb (A .from j) (A .to j) (p ∙ e ∙ sym q), eq-eqb (A .from j) u p, eq-eqb (A .to j) b q))
+        (λ q. rw (eq-eqb (A .from j) u p, ne-eqb (A .to j) b q)))
         (λ p. rw (ne-eqb (A .from j) u p))
 
     other : (u ≡ b → ⊥) → (j : ℕ) → when (eqb (A .from j) u && eqb (A .to j) b) (when (not (eqb (A .from j) (A .to j))) (getD widths j 0)) ≡ when (eqb (A .from j) u && eqb (A .to j) b) (getD widths j 0)
     other n j =
         either (eq-or-ne (A .from j) u)
         (λ p. either (eq-or-ne (A .to j) b)
-          (λ q. rw (ne-eqb (A .from j) (A .to j) (λ z. n (sym p ∙ z ∙ q)), eq-eqb (A .from j) u p, eq-eqb (A .to j) b q))
-          (λ q. rw (eq-eqb (A .from j) u p, ne-eqb (A .to j) b q)))
+        (λ q. rw (ne-eqb (A .from j) (A .to j) (λ z. n (sym p ∙ z ∙ q)), eq-eqb (A .from j) u p, eq-eqb (A .to j) b q))
+        (λ q. rw (eq-eqb (A .from j) u p, ne-eqb (A .to j) b q)))
         (λ p. rw (ne-eqb (A .from j) u p))
 
 -- one term is lower, and none is higher: so is the sum
@@ -96,7 +96,7 @@ module _ (A : Arcs) (widths : List ℕ) (wide : (j : ℕ) → j < A .count → 0
       (λ n.
       let (j, l, ea, eb) = edge-arc A u w s in
       let less : sent A widths u b j < leaves A widths u j =
-        rw (eq-eqb (A .from j) u ea, ne-eqb (A .to j) b (λ q. n (sym eb ∙ q)), ne-eqb (A .from j) (A .to j) (λ q. edge-other A u w s (sym ea ∙ q ∙ eb))) (wide j l) in
+      rw (eq-eqb (A .from j) u ea, ne-eqb (A .to j) b (λ q. n (sym eb ∙ q)), ne-eqb (A .from j) (A .to j) (λ q. edge-other A u w s (sym ea ∙ q ∙ eb))) (wide j l) in
       absurd (omega (arith, sum-strict (A .count) (sent A widths u b) (leaves A widths u) (λ k _. sent-le k) j l less)))
 
   pub only-all : ((w : ℕ) → Edge A u w → w ≡ b) → sumTo (A .count) (sent A widths u b) ≡ sumTo (A .count) (leaves A widths u)
@@ -107,8 +107,8 @@ module _ (A : Arcs) (widths : List ℕ) (wide : (j : ℕ) → j < A .count → 0
       go j l =
           either (eq-or-ne (A .from j) u)
           (λ p. either (eq-or-ne (A .from j) (A .to j))
-            (λ q. rw (eq-eqb (A .from j) u p, eq-eqb (A .from j) (A .to j) q) (zero-either (eqb (A .to j) b)))
-            (λ q. rw (eq-eqb (A .from j) u p, eq-eqb (A .to j) b (h (A .to j) (rw p at (arc-edge A j l q))))))
+          (λ q. rw (eq-eqb (A .from j) u p, eq-eqb (A .from j) (A .to j) q) (zero-either (eqb (A .to j) b)))
+          (λ q. rw (eq-eqb (A .from j) u p, eq-eqb (A .to j) b (h (A .to j) (rw p at (arc-edge A j l q))))))
           (λ p. rw (ne-eqb (A .from j) u p))
         where
           zero-either : (s : Bool) → when s 0 ≡ 0

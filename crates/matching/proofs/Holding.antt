@@ -34,8 +34,8 @@ module _ (A : Arcs) (levels mates tos blocked blocked′ : List ℕ) (ps : Round
       either (eq-or-ne c v)
       (λ e. rw (e, getD-set-same (set mates u v) v u 0 (rw (length-set mates u v, T .mates-tall) lv), ne-eqb v u (λ z. edge-other A u v t (sym z)), eq-eqb v v refl))
       (λ n. getD-set-other (set mates u v) v c u 0 n
-        ∙ either (eq-or-ne c u) (λ e. rw (e, getD-set-same mates u v 0 (rw (T .mates-tall) lu), eq-eqb u u refl))
-          (λ k. rw (ne-eqb c u k, ne-eqb c v n) (getD-set-other mates u c v 0 k ∙ H .mates-are c l)))
+      ∙ either (eq-or-ne c u) (λ e. rw (e, getD-set-same mates u v 0 (rw (T .mates-tall) lu), eq-eqb u u refl))
+      (λ k. rw (ne-eqb c u k, ne-eqb c v n) (getD-set-other mates u c v 0 k ∙ H .mates-are c l)))
 
   tos-pair : (c : ℕ) → c < 512 → getD (set tos v 1) c 0 ≡ when (anyOf (λ p. eqb (p .to) c) (pair u v ∷ ps)) 1
   tos-pair c l =

@@ -43,9 +43,11 @@ module _ (A B : Arcs) (S : Same A B) (levels : List ℕ) (g : ℕ) where
   one-same : (p : Pair) → ruleOne A levels g p ≡ ruleOne B levels g p
   unfolding ruleOne onlySuccessor onlyPredecessor next
   one-same p =
-      rw (S (p .from) (p .to),
+      rw (
+        S (p .from) (p .to),
         all-ext g (λ w. not (edge A (p .from) w) || eqb w (p .to)) (λ w. not (edge B (p .from) w) || eqb w (p .to)) (λ w _. rw (S (p .from) w)),
-        all-ext g (λ w. not (edge A w (p .to)) || eqb w (p .from)) (λ w. not (edge B w (p .to)) || eqb w (p .from)) (λ w _. rw (S w (p .to))))
+        all-ext g (λ w. not (edge A w (p .to)) || eqb w (p .from)) (λ w. not (edge B w (p .to)) || eqb w (p .from)) (λ w _. rw (S w (p .to))),
+      )
 
   two-same : (p q : Pair) → ruleTwo A levels g p q ≡ ruleTwo B levels g p q
   unfolding ruleTwo next
@@ -81,7 +83,7 @@ unfolding partCost costIn
 cost-identity cs c =
     sumTo-ext (length cs) _ _ (λ v l. rw (identity-at (length cs) v l, eqb-turn v c))
     ∙ by (ltb c (length cs)) (λ t. sumTo-only (length cs) c (λ v. getD cs v 0) (ltb-true c _ t))
-      (λ t. sumTo-none (length cs) _ (λ v l. rw (ne-eqb c v (λ e. omega (arith, ltb-false c (length cs) t)))) ∙ sym (getD-past cs c (ltb-false c _ t)))
+    (λ t. sumTo-none (length cs) _ (λ v l. rw (ne-eqb c v (λ e. omega (arith, ltb-false c (length cs) t)))) ∙ sym (getD-past cs c (ltb-false c _ t)))
 
 -- a rung's lists with its clusters' costs
 module _ {G : Graph} {row : List ℕ} {g : ℕ} {froms tos ws : List ℕ} (R : Ready G row g) (C : Coarse G row g froms tos ws)
@@ -97,7 +99,7 @@ module _ {G : Graph} {row : List ℕ} {g : ℕ} {froms tos ws : List ℕ} (R : R
   round-coarse bound =
       rw (identity-clusters g, ← R .count, levels-same (seen H (identity g)) (seen G row) same g, order-same (seen H (identity g)) (seen G row) same g)
       (visits-same H G (identity g) row (levelsOf (seen G row) g) g bound same (C .width)
-        (λ c. ap (λ (n : ℕ). partCost cs (identity n) c) (sym len) ∙ cost-identity cs c ∙ costs c) (orderOf (seen G row) g) [])
+      (λ c. ap (λ (n : ℕ). partCost cs (identity n) c) (sym len) ∙ cost-identity cs c ∙ costs c) (orderOf (seen G row) g) [])
 
   module _ (onto : (c : ℕ) → c < g → (v : ℕ) × (v < vertices G) × (getD row v 0 ≡ c)) where
     costly : (c : ℕ) → c < g → 0 < getD cs c 0

@@ -66,13 +66,13 @@ module _ (row starts ends widths levels costs mates tos blocked : List ℕ) (bou
     stepped-pair {blocked′ = blocked′} n P =
         record {
           tall = rw (P .mates-are, P .tos-are) tall;
-            few = omega arith;
+          few = omega arith;
           is = λ vs g C ps K H.
-            let (e, t) = visit-takes (graphOf vs starts ends widths) row g bound levels costs mates tos blocked C ps K H u lu ex single er goes W n in
-            record {
-              holds = rw (e, P .mates-are, P .tos-are) (holds-pair A levels mates tos blocked _ ps u to T H lu (widest-low W n) t (P .blocks));
-              counts = rw e (omega arith);
-            };
+              let (e, t) = visit-takes (graphOf vs starts ends widths) row g bound levels costs mates tos blocked C ps K H u lu ex single er goes W n in
+              record {
+                holds = rw (e, P .mates-are, P .tos-are) (holds-pair A levels mates tos blocked _ ps u to T H lu (widest-low W n) t (P .blocks));
+                counts = rw e (omega arith);
+              };
         }
       where
         tall : Tall (set (set mates u to) to u) (set tos to 1) blocked′
@@ -146,7 +146,7 @@ module _ (G : Graph) (row levels costs : List ℕ) (g bound : ℕ) (C : Context 
       let L = levelsOf (seen G row) g in
       let ps = visits G row L g bound [] (take i (orderOf (seen G row) g)) in
       let q : visits G row L g bound [] (take (i + 1) (orderOf (seen G row) g)) ≡ visit G row L g bound ps u =
-        visits-more G row L g bound [] (orderOf (seen G row) g) i (omega (arith, all)) ∙ ap (visit G row L g bound ps) (sym (O .is i l) ∙ sym e) in
+      visits-more G row L g bound [] (orderOf (seen G row) g) i (omega (arith, all)) ∙ ap (visit G row L g bound ps) (sym (O .is i l) ∙ sym e) in
       let W = S .is (G .costs) g C ps (N .keeps .0) (N .holds) in
       record {
         tall = S .tall;

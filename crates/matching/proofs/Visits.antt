@@ -56,14 +56,14 @@ unfolding widthOf
 width-none A widths u b t =
     either (eq-or-ne u b) (λ e. rw (eq-eqb u b e))
     (λ n. rw (ne-eqb u b n) (sumTo-none (A .count) (λ j. when (eqb (A .from j) u && eqb (A .to j) b) (getD widths j 0)) (λ j l.
-      by (eqb (A .from j) u && eqb (A .to j) b)
-      (λ q.
-      let (x, y) = both (eqb (A .from j) u) (eqb (A .to j) b) q in
-      let ex = eqb-true (A .from j) u x in
-      let ey = eqb-true (A .to j) b y in
-      let z : Edge A u b = rw (ex, ey) at (arc-edge A j l (λ k. n (sym ex ∙ k ∙ ey))) in
-      absurd (no-bool (sym t ∙ z)))
-      (λ q. rw q))))
+    by (eqb (A .from j) u && eqb (A .to j) b)
+    (λ q.
+    let (x, y) = both (eqb (A .from j) u) (eqb (A .to j) b) q in
+    let ex = eqb-true (A .from j) u x in
+    let ey = eqb-true (A .to j) b y in
+    let z : Edge A u b = rw (ex, ey) at (arc-edge A j l (λ k. n (sym ex ∙ k ∙ ey))) in
+    absurd (no-bool (sym t ∙ z)))
+    (λ q. rw q))))
 
 or-true : (a : Bool) → (a || true) ≡ true
 or-true true = refl
@@ -137,7 +137,7 @@ module _ (G : Graph) (row : List ℕ) (g bound : ℕ) (levels costs mates tos bl
         let t = any-none (A .count) (haltsAt A levels tos u) (sym er ∙ goes) j l in
         let m : getD tos b 0 ≡ 1 = H .tos-are b (low u b e .1) ∙ rw (to-of i li) in
         let s : haltsAt A levels tos u j ≡ true =
-          rw (eb, eq-eqb (A .from j) u eu, ne-eqb b u (λ z. edge-other A u b e (sym z)), ne-eqb (getD tos b 0) 0 (λ z. omega arith), next-i u b n) in
+        rw (eb, eq-eqb (A .from j) u eu, ne-eqb b u (λ z. edge-other A u b e (sym z)), ne-eqb (getD tos b 0) 0 (λ z. omega arith), next-i u b n) in
         no-bool (sym t ∙ s)
       where
         to-of : (i : ℕ) → i < length ps → anyOf (λ p. eqb (p .to) (pairAt ps i .to)) ps ≡ true
@@ -148,7 +148,7 @@ module _ (G : Graph) (row : List ℕ) (g bound : ℕ) (levels costs mates tos bl
     blocked-e : (b : ℕ) → b < 512 → (getD blocked b 0 ≡ 0 → ⊥) → (i : ℕ) × (i < length ps) × Edge A (pairAt ps i .from) b × Next A g (pairAt ps i .from) b
     blocked-e b lb n =
         let t : anyOf (λ p. edge A (p .from) b && nextIn levels (p .from) b) ps ≡ true =
-          by (anyOf (λ p. edge A (p .from) b && nextIn levels (p .from) b) ps) (λ q. q) (λ q. absurd (n (H .blocked-are b lb ∙ rw q))) in
+        by (anyOf (λ p. edge A (p .from) b && nextIn levels (p .from) b) ps) (λ q. q) (λ q. absurd (n (H .blocked-are b lb ∙ rw q))) in
         let (i, li, ei) = any-of-e (λ p. edge A (p .from) b && nextIn levels (p .from) b) ps t in
         let (e, s) = both (edge A (pairAt ps i .from) b) _ ei in
         (i, li, e, next-e _ b s)
@@ -156,7 +156,7 @@ module _ (G : Graph) (row : List ℕ) (g bound : ℕ) (levels costs mates tos bl
     blocked-i : (b : ℕ) → b < 512 → getD blocked b 0 ≡ 0 → (i : ℕ) → i < length ps → Edge A (pairAt ps i .from) b → Next A g (pairAt ps i .from) b → ⊥
     blocked-i b lb z i li e n =
         let t : anyOf (λ p. edge A (p .from) b && nextIn levels (p .from) b) ps ≡ false =
-          by (anyOf (λ p. edge A (p .from) b && nextIn levels (p .from) b) ps) (λ q. let y : getD blocked b 0 ≡ 1 = H .blocked-are b lb ∙ rw q in absurd (omega arith)) (λ q. q) in
+        by (anyOf (λ p. edge A (p .from) b && nextIn levels (p .from) b) ps) (λ q. let y : getD blocked b 0 ≡ 1 = H .blocked-are b lb ∙ rw q in absurd (omega arith)) (λ q. q) in
         no-bool (sym (any-of-none (λ p. edge A (p .from) b && nextIn levels (p .from) b) ps t i li) ∙ both-i (edge A (pairAt ps i .from) b) _ e (next-i _ b n))
 
     -- what b offers by the arrays is what it offers by the rules
@@ -223,9 +223,9 @@ module _ (G : Graph) (row : List ℕ) (g bound : ℕ) (levels costs mates tos bl
               rw f
               (either (eq-or-ne (mateOf ps b) b)
               (λ m. either (eq-or-ne (getD blocked b 0) 0)
-                (λ z. by (nextIn levels u b || eqb w total) (λ s. absurd (no-bool (sym f ∙ is-free m z s)))
-                  (λ s. rw (eq-eqb (mateOf ps b) b m, eq-eqb (getD blocked b 0) 0 z, s) (pick-same (ltb bound (getD costs u 0 + getD costs b 0)))))
-                (λ z. rw (eq-eqb (mateOf ps b) b m, ne-eqb (getD blocked b 0) 0 z)))
+              (λ z. by (nextIn levels u b || eqb w total) (λ s. absurd (no-bool (sym f ∙ is-free m z s)))
+              (λ s. rw (eq-eqb (mateOf ps b) b m, eq-eqb (getD blocked b 0) 0 z, s) (pick-same (ltb bound (getD costs u 0 + getD costs b 0)))))
+              (λ z. rw (eq-eqb (mateOf ps b) b m, ne-eqb (getD blocked b 0) 0 z)))
               (λ m. rw (ne-eqb (mateOf ps b) b m)))
             where
               pick-same : (s : Bool) → _≡_ {A = ℕ} 0 (pick s 0 0)
@@ -272,9 +272,11 @@ module _ (G : Graph) (row : List ℕ) (g bound : ℕ) (levels costs mates tos bl
         where
           go : offerOf A (G .widths) levels mates blocked costs bound u to ≡ width → (visit G row L g bound ps u ≡ pair u to ∷ ps) × Edge A u to
           go e =
-              let t = sent-edge to (λ z. n (sym e ∙ z)) in
-              (visit-some G row L g bound ps u to width (edge-inside A g inside u to t .1) n (offer-is to t ∙ e) top
-              (λ v lv q.
-              let s = offer-edge v (λ z. n (sym q ∙ z)) in
-              let (j, lj, eu, ev) = edge-arc A u v s in
-              either (W .low j lj (leave-at A j eu (λ q. edge-other A u v s (sym (sym ev ∙ q)))) (rw ev (sym (offer-is v s) ∙ q))) n (λ h. omega arith)), t)
+              let t = sent-edge to (λ z. n (sym e ∙ z)) in (
+                visit-some G row L g bound ps u to width (edge-inside A g inside u to t .1) n (offer-is to t ∙ e) top
+                    (λ v lv q.
+                    let s = offer-edge v (λ z. n (sym q ∙ z)) in
+                    let (j, lj, eu, ev) = edge-arc A u v s in
+                    either (W .low j lj (leave-at A j eu (λ q. edge-other A u v s (sym (sym ev ∙ q)))) (rw ev (sym (offer-is v s) ∙ q))) n (λ h. omega arith)),
+                t,
+              )

@@ -11,18 +11,57 @@ ghost use Rattle.offers.specs.State.{Simple, offerOf, Widest};
 ghost use Rattle.matching.specs.Held.{Ready, Weights, Tall, Paired, Stepped, Matched};
 
 // The widest offer to u, of the lowest cluster that makes it.
-fn best_for(row: &[u16], starts: &[u16], ends: &[u16], widths: &[u32], head: &[u16; 513], next: &[u16; 1024], levels: &[u16; 512], mates: &[u16; 512], blocked: &[u8; 512], costs: &[u32; 512], bound: u32, u: usize) -> offers::Best
+fn best_for(
+    row: &[u16],
+    starts: &[u16],
+    ends: &[u16],
+    widths: &[u32],
+    head: &[u16; 513],
+    next: &[u16; 1024],
+    levels: &[u16; 512],
+    mates: &[u16; 512],
+    blocked: &[u8; 512],
+    costs: &[u32; 512],
+    bound: u32,
+    u: usize,
+) -> offers::Best
     requires { ⌜ Simple (now row) (now starts) (now ends) (now widths) ⌝ }
     requires { ⌜ Linked (leave (arcs (now row) (now starts) (now ends))) (length (now starts)) (now head) (now next) ⌝ }
     requires { ⌜ (u < 512) × ((c : ℕ) → getD (now costs) c 0 ≤ 33553920) ⌝ }
     ensures { λ r. ⌜ Widest (arcs (now (row .entry)) (now (starts .entry)) (now (ends .entry))) (offerOf (arcs (now (row .entry)) (now (starts .entry)) (now (ends .entry))) (now (widths .entry)) (now (levels .entry)) (now (mates .entry)) (now (blocked .entry)) (now (costs .entry)) bound u) u (length (now (starts .entry))) (r .width) (r .to) ⌝ }
 {
     let total = offers::total(row, starts, ends, widths, head, next, u);
-    offers::choose(row, starts, ends, widths, head, next, levels, mates, blocked, costs, bound, u, total)
+    offers::choose(
+        row,
+        starts,
+        ends,
+        widths,
+        head,
+        next,
+        levels,
+        mates,
+        blocked,
+        costs,
+        bound,
+        u,
+        total,
+    )
 }
 
 // Makes u and v a pair.
-fn join(row: &[u16], starts: &[u16], ends: &[u16], head: &[u16; 513], next: &[u16; 1024], levels: &[u16; 512], u: usize, v: usize, mates: &mut [u16; 512], tos: &mut [u8; 512], blocked: &mut [u8; 512])
+fn join(
+    row: &[u16],
+    starts: &[u16],
+    ends: &[u16],
+    head: &[u16; 513],
+    next: &[u16; 1024],
+    levels: &[u16; 512],
+    u: usize,
+    v: usize,
+    mates: &mut [u16; 512],
+    tos: &mut [u8; 512],
+    blocked: &mut [u8; 512],
+)
     requires { ⌜ Joins (now row) (now starts) (now ends) ⌝ }
     requires { ⌜ Linked (leave (arcs (now row) (now starts) (now ends))) (length (now starts)) (now head) (now next) ⌝ }
     requires { ⌜ (u < 512) × (v < 512) ⌝ }
@@ -36,7 +75,21 @@ fn join(row: &[u16], starts: &[u16], ends: &[u16], head: &[u16; 513], next: &[u1
 }
 
 // Visits u: pairs it with the successor that makes the widest offer, where there is one. Answers how many pairs that adds.
-fn visit(row: &[u16], starts: &[u16], ends: &[u16], widths: &[u32], head: &[u16; 513], next: &[u16; 1024], levels: &[u16; 512], costs: &[u32; 512], bound: u32, u: usize, mates: &mut [u16; 512], tos: &mut [u8; 512], blocked: &mut [u8; 512]) -> usize
+fn visit(
+    row: &[u16],
+    starts: &[u16],
+    ends: &[u16],
+    widths: &[u32],
+    head: &[u16; 513],
+    next: &[u16; 1024],
+    levels: &[u16; 512],
+    costs: &[u32; 512],
+    bound: u32,
+    u: usize,
+    mates: &mut [u16; 512],
+    tos: &mut [u8; 512],
+    blocked: &mut [u8; 512],
+) -> usize
     requires { ⌜ Simple (now row) (now starts) (now ends) (now widths) ⌝ }
     requires { ⌜ Linked (leave (arcs (now row) (now starts) (now ends))) (length (now starts)) (now head) (now next) ⌝ }
     requires { ⌜ (u < 512) × ((c : ℕ) → getD (now costs) c 0 ≤ 33553920) ⌝ }
@@ -49,12 +102,37 @@ fn visit(row: &[u16], starts: &[u16], ends: &[u16], widths: &[u32], head: &[u16;
     if offers::stops(row, starts, ends, head, next, levels, tos, u) {
         return 0;
     }
-    let best = best_for(row, starts, ends, widths, head, next, levels, mates, blocked, costs, bound, u);
+    let best = best_for(
+        row,
+        starts,
+        ends,
+        widths,
+        head,
+        next,
+        levels,
+        mates,
+        blocked,
+        costs,
+        bound,
+        u,
+    );
     if best.width == 0 {
         return 0;
     }
     let v = best.to;
-    join(row, starts, ends, head, next, levels, u, v, mates, tos, blocked);
+    join(
+        row,
+        starts,
+        ends,
+        head,
+        next,
+        levels,
+        u,
+        v,
+        mates,
+        tos,
+        blocked,
+    );
     1
 }
 
@@ -71,7 +149,20 @@ fn singles(mates: &mut [u16; 512])
 }
 
 // Visits the clusters in topological order, by their levels. Answers how many pairs were made.
-fn pairs(costs: &[u32; 512], row: &[u16], starts: &[u16], ends: &[u16], widths: &[u32], head: &[u16; 513], next: &[u16; 1024], order: &[u16], levels: &[u16; 512], g: usize, bound: u32, mates: &mut [u16; 512]) -> usize
+fn pairs(
+    costs: &[u32; 512],
+    row: &[u16],
+    starts: &[u16],
+    ends: &[u16],
+    widths: &[u32],
+    head: &[u16; 513],
+    next: &[u16; 1024],
+    order: &[u16],
+    levels: &[u16; 512],
+    g: usize,
+    bound: u32,
+    mates: &mut [u16; 512],
+) -> usize
     requires { ⌜ Ready (graphOf (take g (now costs)) (now starts) (now ends) (now widths)) (now row) g ⌝ }
     requires { ⌜ Weights g (now costs) × (now row ≡ identity g) × Simple (now row) (now starts) (now ends) (now widths) ⌝ }
     requires { ⌜ Linked (leave (arcs (now row) (now starts) (now ends))) (length (now starts)) (now head) (now next) ⌝ }
@@ -87,14 +178,38 @@ fn pairs(costs: &[u32; 512], row: &[u16], starts: &[u16], ends: &[u16], widths: 
     let mut i: usize = 0;
     while i < g {
         let u = folds::at16(order, i);
-        count += visit(row, starts, ends, widths, head, next, levels, costs, bound, u, mates, &mut tos, &mut blocked);
+        count += visit(
+            row,
+            starts,
+            ends,
+            widths,
+            head,
+            next,
+            levels,
+            costs,
+            bound,
+            u,
+            mates,
+            &mut tos,
+            &mut blocked,
+        );
         i += 1;
     }
     count
 }
 
 // One round on the lists of a rung with g clusters: the mate of each cluster, its own number where it has none. Answers how many pairs there are.
-pub fn round(costs: &[u32; 512], row: &[u16], starts: &[u16], ends: &[u16], widths: &[u32], order: &[u16], g: usize, bound: u32, mates: &mut [u16; 512]) -> usize
+pub fn round(
+    costs: &[u32; 512],
+    row: &[u16],
+    starts: &[u16],
+    ends: &[u16],
+    widths: &[u32],
+    order: &[u16],
+    g: usize,
+    bound: u32,
+    mates: &mut [u16; 512],
+) -> usize
     requires { ⌜ Ready (graphOf (take g (now costs)) (now starts) (now ends) (now widths)) (now row) g ⌝ }
     requires { ⌜ Weights g (now costs) × (now row ≡ identity g) × Simple (now row) (now starts) (now ends) (now widths) ⌝ }
     requires { ⌜ Ordered (arcs (now row) (now starts) (now ends)) g (now order) ⌝ }
@@ -105,5 +220,18 @@ pub fn round(costs: &[u32; 512], row: &[u16], starts: &[u16], ends: &[u16], widt
     let mut levels = [0; 512];
     graph::fill_leaving(row, starts, ends, &mut head, &mut next);
     levels::sweep(row, starts, ends, &head, &next, order, g, &mut levels);
-    pairs(costs, row, starts, ends, widths, &head, &next, order, &levels, g, bound, mates)
+    pairs(
+        costs,
+        row,
+        starts,
+        ends,
+        widths,
+        &head,
+        &next,
+        order,
+        &levels,
+        g,
+        bound,
+        mates,
+    )
 }

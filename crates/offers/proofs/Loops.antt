@@ -57,9 +57,9 @@ module _ (A : Arcs) (widths : List ℕ) (u : ℕ) where
   unfolding sent
   sent-one j l e lu S =
       sumTo-ext (A .count) _ (λ i. when (eqb j i) (getD widths i 0)) (λ i li.
-        either (eq-or-ne j i)
-        (λ q. rw (← q, eq-eqb j j refl, eq-eqb (A .from j) u (leave-from A j e lu), eq-eqb (A .to j) (A .to j) refl) (cross-width j e lu))
-        (λ n. rw (ne-eqb j i n) (apart i li n)))
+      either (eq-or-ne j i)
+      (λ q. rw (← q, eq-eqb j j refl, eq-eqb (A .from j) u (leave-from A j e lu), eq-eqb (A .to j) (A .to j) refl) (cross-width j e lu))
+      (λ n. rw (ne-eqb j i n) (apart i li n)))
       ∙ sumTo-only (A .count) j (λ i. getD widths i 0) l
     where
       apart : (i : ℕ) → i < A .count → (j ≡ i → ⊥) → when (eqb (A .from i) u && eqb (A .to i) (A .to j)) (crossing A widths i) ≡ 0
@@ -115,8 +115,8 @@ module _ (A : Arcs) (f : ℕ → ℕ) (u : ℕ) {m : ℕ} {head next : List ℕ}
       record {
         top = λ i h q. either (split o l h q) (λ z. omega (arith, W .top i z q)) (λ z. omega (arith, ap f (ap (A .to) z ∙ sym eb)));
         low = λ i h q z. either (split o l h q)
-          (λ s. either (W .low i s q (z ∙ e)) (λ n. inl (e ∙ n)) (λ n. inr (omega arith)))
-          (λ s. inr (omega (arith, ap (A .to) s)));
+            (λ s. either (W .low i s q (z ∙ e)) (λ n. inl (e ∙ n)) (λ n. inr (omega arith)))
+            (λ s. inr (omega (arith, ap (A .to) s)));
         hit = inr (sym ew, lb);
       }
 
@@ -126,7 +126,7 @@ module _ (A : Arcs) (f : ℕ → ℕ) (u : ℕ) {m : ℕ} {head next : List ℕ}
       record {
         top = λ i k q. either (split o l k q) (λ z. W .top i z q) (λ z. omega (arith, ap f (ap (A .to) z ∙ sym eb)));
         low = λ i k q z. either (split o l k q) (λ s. W .low i s q z)
-          (λ s. inr (let e : w ≡ width = omega (arith, ap f (ap (A .to) s ∙ sym eb)) in omega (arith, h e, ap (A .to) s)));
+            (λ s. inr (let e : w ≡ width = omega (arith, ap f (ap (A .to) s ∙ sym eb)) in omega (arith, h e, ap (A .to) s)));
         hit = W .hit;
       }
 
@@ -147,8 +147,8 @@ module _ (A : Arcs) (levels : List ℕ) (u : ℕ) {m : ℕ} {head next : List �
   blocked-is new b d l =
       either (eq-or-ne b u) (λ e. inl (rw (eq-eqb b u e)))
       (λ n. by (nextIn levels u b)
-        (λ t. either (eq-or-ne d b) (λ e. inr (e, n, t, rw (ne-eqb b u n, t, e) (getD-set-same new b 1 0 l))) (λ ne. inl (rw (ne-eqb b u n, t) (getD-set-other new b d 1 0 ne))))
-        (λ t. inl (rw (ne-eqb b u n, t))))
+      (λ t. either (eq-or-ne d b) (λ e. inr (e, n, t, rw (ne-eqb b u n, t, e) (getD-set-same new b 1 0 l))) (λ ne. inl (rw (ne-eqb b u n, t) (getD-set-other new b d 1 0 ne))))
+      (λ t. inl (rw (ne-eqb b u n, t))))
 
   blocked-at : (new : List ℕ) (b : ℕ) → b < length new → (b ≡ u → ⊥) → nextIn levels u b ≡ true → getD (blockedOf levels u b new) b 0 ≡ 1
   unfolding blockedOf
@@ -168,8 +168,8 @@ module _ (A : Arcs) (levels : List ℕ) (u : ℕ) {m : ℕ} {head next : List �
       record {
         tall = length-blocked new b ∙ B .tall;
         keeps = λ d ld. either (blocked-is new b d room)
-          (λ q. either (B .keeps d ld) (λ z. inl (q ∙ z)) (λ (z, t, n). inr (q ∙ z, t, n)))
-          (λ (ed, n, t, q). inr (q, rw (near, sym eb ∙ sym ed) at (arc-edge A j (omega arith) (λ z. n (eb ∙ sym z ∙ near))), rw ed t));
+            (λ q. either (B .keeps d ld) (λ z. inl (q ∙ z)) (λ (z, t, n). inr (q ∙ z, t, n)))
+            (λ (ed, n, t, q). inr (q, rw (near, sym eb ∙ sym ed) at (arc-edge A j (omega arith) (λ z. n (eb ∙ sym z ∙ near))), rw ed t));
         marks = λ i h e n t. marked i h e n t;
       }
     where
@@ -183,9 +183,9 @@ module _ (A : Arcs) (levels : List ℕ) (u : ℕ) {m : ℕ} {head next : List �
       marked i h e n t =
           either (eq-or-ne (A .to i) b) (λ q. rw q (blocked-at new b room (λ z. n (q ∙ z)) (rw q at t)))
           (λ ne. by (ltb i j)
-            (λ k. either (blocked-is new b (A .to i) room) (λ q. q ∙ B .marks i (ltb-true i j k) e n t) (λ z. absurd (ne (z .0))))
-            (λ k. either (eq-or-ne i j) (λ q. absurd (ne (ap (A .to) q ∙ sym eb)))
-              (λ q. absurd (L .nexts j l .skips i (omega (arith, ltb-false i j k)) h (leave-at A i e n ∙ sym (o .at l))))))
+          (λ k. either (blocked-is new b (A .to i) room) (λ q. q ∙ B .marks i (ltb-true i j k) e n t) (λ z. absurd (ne (z .0))))
+          (λ k. either (eq-or-ne i j) (λ q. absurd (ne (ap (A .to) q ∙ sym eb)))
+          (λ q. absurd (L .nexts j l .skips i (omega (arith, ltb-false i j k)) h (leave-at A i e n ∙ sym (o .at l))))))
 
 -- a difference of 1, as the code reads it
 pub next-no : (levels : List ℕ) (u v : ℕ) → getD levels v 0 ≤ getD levels u 0 → false ≡ nextIn levels u v

@@ -11,7 +11,15 @@ ghost use Rattle.graph.specs.Coarse.{Narrow};
 ghost use Rattle.offers.specs.State.{leaves, Single, nextIn, halts, haltsAt, offerIn, offerOf, Widest, Better, blockedOf, Blocking};
 
 // The width of all edges that leave u.
-pub fn total(row: &[u16], starts: &[u16], ends: &[u16], widths: &[u32], head: &[u16; 513], next: &[u16; 1024], u: usize) -> u32
+pub fn total(
+    row: &[u16],
+    starts: &[u16],
+    ends: &[u16],
+    widths: &[u32],
+    head: &[u16; 513],
+    next: &[u16; 1024],
+    u: usize,
+) -> u32
     requires { ⌜ Joins (now row) (now starts) (now ends) ⌝ }
     requires { ⌜ Linked (leave (arcs (now row) (now starts) (now ends))) (length (now starts)) (now head) (now next) ⌝ }
     requires { ⌜ (u < 512) × (length (now widths) ≡ length (now starts)) × Narrow (now widths) ⌝ }
@@ -41,7 +49,15 @@ fn is_next(levels: &[u16; 512], u: usize, v: usize) -> bool
 }
 
 // Whether edge j of u goes to the end of a pair, on the next level.
-fn halts_at(row: &[u16], starts: &[u16], ends: &[u16], levels: &[u16; 512], tos: &[u8; 512], u: usize, j: usize) -> bool
+fn halts_at(
+    row: &[u16],
+    starts: &[u16],
+    ends: &[u16],
+    levels: &[u16; 512],
+    tos: &[u8; 512],
+    u: usize,
+    j: usize,
+) -> bool
     requires { ⌜ Joins (now row) (now starts) (now ends) ⌝ }
     requires { ⌜ (u < 512) × (j < length (now starts)) ⌝ }
     ensures { λ r. ⌜ r ≡ halts (arcs (now (row .entry)) (now (starts .entry)) (now (ends .entry))) (now (levels .entry)) (now (tos .entry)) u j ⌝ }
@@ -57,7 +73,16 @@ fn halts_at(row: &[u16], starts: &[u16], ends: &[u16], levels: &[u16; 512], tos:
 }
 
 // Whether some edge of u goes to the end of a pair, on the next level: then no pair may begin at u.
-pub fn stops(row: &[u16], starts: &[u16], ends: &[u16], head: &[u16; 513], next: &[u16; 1024], levels: &[u16; 512], tos: &[u8; 512], u: usize) -> bool
+pub fn stops(
+    row: &[u16],
+    starts: &[u16],
+    ends: &[u16],
+    head: &[u16; 513],
+    next: &[u16; 1024],
+    levels: &[u16; 512],
+    tos: &[u8; 512],
+    u: usize,
+) -> bool
     requires { ⌜ Joins (now row) (now starts) (now ends) ⌝ }
     requires { ⌜ Linked (leave (arcs (now row) (now starts) (now ends))) (length (now starts)) (now head) (now next) ⌝ }
     requires { ⌜ u < 512 ⌝ }
@@ -86,7 +111,17 @@ fn is_near(levels: &[u16; 512], u: usize, b: usize, w: u32, total: u32) -> bool
 }
 
 // The width w that b offers to u, 0 where u may not take b.
-fn offer(levels: &[u16; 512], mates: &[u16; 512], blocked: &[u8; 512], costs: &[u32; 512], bound: u32, u: usize, b: usize, w: u32, total: u32) -> u32
+fn offer(
+    levels: &[u16; 512],
+    mates: &[u16; 512],
+    blocked: &[u8; 512],
+    costs: &[u32; 512],
+    bound: u32,
+    u: usize,
+    b: usize,
+    w: u32,
+    total: u32,
+) -> u32
     requires { ⌜ (u < 512) × (b < 512) ⌝ }
     requires { ⌜ ((c : ℕ) → getD (now costs) c 0 ≤ 33553920) ⌝ }
     ensures { λ r. ⌜ r ≡ offerIn (now (levels .entry)) (now (mates .entry)) (now (blocked .entry)) (now (costs .entry)) bound u b w total ⌝ }
@@ -128,7 +163,21 @@ fn better(best: Best, w: u32, b: usize) -> Best
 }
 
 // The widest offer to u, of the lowest cluster that makes it.
-pub fn choose(row: &[u16], starts: &[u16], ends: &[u16], widths: &[u32], head: &[u16; 513], next: &[u16; 1024], levels: &[u16; 512], mates: &[u16; 512], blocked: &[u8; 512], costs: &[u32; 512], bound: u32, u: usize, total: u32) -> Best
+pub fn choose(
+    row: &[u16],
+    starts: &[u16],
+    ends: &[u16],
+    widths: &[u32],
+    head: &[u16; 513],
+    next: &[u16; 1024],
+    levels: &[u16; 512],
+    mates: &[u16; 512],
+    blocked: &[u8; 512],
+    costs: &[u32; 512],
+    bound: u32,
+    u: usize,
+    total: u32,
+) -> Best
     requires { ⌜ Joins (now row) (now starts) (now ends) ⌝ }
     requires { ⌜ Linked (leave (arcs (now row) (now starts) (now ends))) (length (now starts)) (now head) (now next) ⌝ }
     requires { ⌜ (u < 512) × (length (now widths) ≡ length (now starts)) × Single (arcs (now row) (now starts) (now ends)) ⌝ }
@@ -162,7 +211,16 @@ fn mark_next(levels: &[u16; 512], u: usize, b: usize, blocked: &mut [u8; 512])
 }
 
 // Blocks what the edges of u go to on the level after u's.
-pub fn block(row: &[u16], starts: &[u16], ends: &[u16], head: &[u16; 513], next: &[u16; 1024], levels: &[u16; 512], u: usize, blocked: &mut [u8; 512])
+pub fn block(
+    row: &[u16],
+    starts: &[u16],
+    ends: &[u16],
+    head: &[u16; 513],
+    next: &[u16; 1024],
+    levels: &[u16; 512],
+    u: usize,
+    blocked: &mut [u8; 512],
+)
     requires { ⌜ Joins (now row) (now starts) (now ends) ⌝ }
     requires { ⌜ Linked (leave (arcs (now row) (now starts) (now ends))) (length (now starts)) (now head) (now next) ⌝ }
     requires { ⌜ (u < 512) × (length (now blocked) ≡ 512) ⌝ }

@@ -54,12 +54,50 @@ fn phases(
     ensures { λ r. ⌜ Works (graphOf (now (costs .entry)) (now (starts .entry)) (now (ends .entry)) (now (widths .entry))) k bound (now (table .entry)) (now (ladder .entry)) (now (table .exit)) (now (ladder .exit)) r ⌝ }
 {
     let mut sizes = [0; 9];
-    let rounds = hierarchy::build(costs, starts, ends, widths, k, bound, ladder, froms, tos, wides, &mut sizes, orders);
-    let first = initial::choose(costs, starts, ends, widths, ladder, orders, rounds, k, bound, table);
+    let rounds = hierarchy::build(
+        costs,
+        starts,
+        ends,
+        widths,
+        k,
+        bound,
+        ladder,
+        froms,
+        tos,
+        wides,
+        &mut sizes,
+        orders,
+    );
+    let first = initial::choose(
+        costs,
+        starts,
+        ends,
+        widths,
+        ladder,
+        orders,
+        rounds,
+        k,
+        bound,
+        table,
+    );
     let Initial::At(rung, _) = first else {
         return Inner::Nothing;
     };
-    let last = refine::refine(costs, starts, ends, widths, k, bound, ladder, froms, tos, wides, &sizes, rung, table);
+    let last = refine::refine(
+        costs,
+        starts,
+        ends,
+        widths,
+        k,
+        bound,
+        ladder,
+        froms,
+        tos,
+        wides,
+        &sizes,
+        rung,
+        table,
+    );
     Inner::Found(last.cut, rounds, rung, last.moves)
 }
 
@@ -82,7 +120,20 @@ fn partition(
     let mut tos = [0; 9216];
     let mut wides = [0; 9216];
     let mut orders = [0; 4608];
-    phases(costs, starts, ends, widths, k, bound, table, ladder, &mut froms, &mut tos, &mut wides, &mut orders)
+    phases(
+        costs,
+        starts,
+        ends,
+        widths,
+        k,
+        bound,
+        table,
+        ladder,
+        &mut froms,
+        &mut tos,
+        &mut wides,
+        &mut orders,
+    )
 }
 
 // Document 01, the split: checks 1 to 8, then the phases; 9 where no rung can be cut.

@@ -95,8 +95,8 @@ module _ (p : ℕ → Bool) (words : List ℕ) (K : Kept p words) where
           tall = length-set (set words (v / 64) x) 8 y ∙ length-set words (v / 64) x ∙ K .tall;
           is = λ w lw. getD-set-other (set words (v / 64) x) 8 w y 0 (λ d. omega arith) ∙ is w lw;
           top =
-            getD-set-same (set words (v / 64) x) 8 y 0 (omega (arith, length-set words (v / 64) x, K .tall)) ∙ h
-            ∙ word-ext 8 _ _ (λ w lw. busy-same _ _ w (sym (getD-set-other (set words (v / 64) x) 8 w y 0 (λ d. omega arith))));
+              getD-set-same (set words (v / 64) x) 8 y 0 (omega (arith, length-set words (v / 64) x, K .tall)) ∙ h
+              ∙ word-ext 8 _ _ (λ w lw. busy-same _ _ w (sym (getD-set-other (set words (v / 64) x) 8 w y 0 (λ d. omega arith))));
         }
       where
         is : (w : ℕ) → w < 8 → getD (set words (v / 64) x) w 0 ≡ word 64 (λ i. q (w * 64 + i))
@@ -158,7 +158,6 @@ pool-same p words K q h =
 pub length-put : (words : List ℕ) (v : ℕ) → length (putOf words v) ≡ length words
 unfolding putOf
 length-put words v = length-set (set words (v / 64) _) 8 _ ∙ length-set words (v / 64) _
-
 
 pub length-taken : (words : List ℕ) (v : ℕ) → length (takenOf words v) ≡ length words
 unfolding takenOf

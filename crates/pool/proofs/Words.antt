@@ -64,7 +64,7 @@ zeros-word (suc k) zero p l h = absurd (not-suc-le-zero l)
 zeros-word (suc k) (suc m) p l h =
     ap₂ (λ (d x : ℕ). under d (trailingZeros m x)) (word-odd k p) (word-half k p)
     ∙ by (p 0) (λ t. rw t (sym (firstTo-found (suc k) 0 p (firstTo-zero p) t (omega arith))))
-      (λ f. let q = first-later k p f in rw f (ap suc (zeros-word k m (λ i. p (suc i)) (le-of-suc-le-suc l) (omega arith)) ∙ sym q))
+    (λ f. let q = first-later k p f in rw f (ap suc (zeros-word k m (λ i. p (suc i)) (le-of-suc-le-suc l) (omega arith)) ∙ sym q))
 
 -- bit i of a power of 2
 pow-half : (i : ℕ) → 2 ^ suc i / 2 ≡ 2 ^ i
@@ -88,13 +88,13 @@ word-or zero i p q l t h = absurd (not-suc-le-zero l)
 word-or (suc k) zero p q l t h =
     or-step (word (suc k) p) 1
     ∙ join
-      (ap (λ (x : ℕ). bitOr x 0) (word-half k p) ∙ or-zero-r (word k (λ i. p (suc i))) ∙ word-ext k _ _ (λ i g. sym (h (suc i) (suc-le-suc g) (λ e. omega arith))))
-      (ap (λ (x : ℕ). max x 1) (word-odd k p) ∙ max-one (p 0) ∙ ap (λ (t : Bool). when t 1) (sym t))
+    (ap (λ (x : ℕ). bitOr x 0) (word-half k p) ∙ or-zero-r (word k (λ i. p (suc i))) ∙ word-ext k _ _ (λ i g. sym (h (suc i) (suc-le-suc g) (λ e. omega arith))))
+    (ap (λ (x : ℕ). max x 1) (word-odd k p) ∙ max-one (p 0) ∙ ap (λ (t : Bool). when t 1) (sym t))
 word-or (suc k) (suc i) p q l t h =
     or-step (word (suc k) p) (2 ^ suc i)
     ∙ join
-      (ap₂ bitOr (word-half k p) (pow-half i) ∙ word-or k i (λ x. p (suc x)) (λ x. q (suc x)) (le-of-suc-le-suc l) t (λ x g n. h (suc x) (suc-le-suc g) (λ e. n (suc-inj e))))
-      (ap₂ max (word-odd k p) (pow-odd i) ∙ max-none (p 0) ∙ ap (λ (t : Bool). when t 1) (sym (h 0 (omega arith) (λ e. omega arith))))
+    (ap₂ bitOr (word-half k p) (pow-half i) ∙ word-or k i (λ x. p (suc x)) (λ x. q (suc x)) (le-of-suc-le-suc l) t (λ x g n. h (suc x) (suc-le-suc g) (λ e. n (suc-inj e))))
+    (ap₂ max (word-odd k p) (pow-odd i) ∙ max-none (p 0) ∙ ap (λ (t : Bool). when t 1) (sym (h 0 (omega arith) (λ e. omega arith))))
 
 differ-none : (t : Bool) → differ (when t 1) 0 ≡ when t 1
 differ-none true = refl
@@ -107,10 +107,10 @@ word-xor zero i p q l s t h = absurd (not-suc-le-zero l)
 word-xor (suc k) zero p q l s t h =
     xor-step (word (suc k) p) 1
     ∙ join
-      (ap (λ (x : ℕ). bitXor x 0) (word-half k p) ∙ xor-zero-r (word k (λ i. p (suc i))) ∙ word-ext k _ _ (λ i g. sym (h (suc i) (suc-le-suc g) (λ e. omega arith))))
-      (ap (λ (x : ℕ). differ x 1) (word-odd k p ∙ ap (λ (t : Bool). when t 1) s) ∙ ap (λ (t : Bool). when t 1) (sym t))
+    (ap (λ (x : ℕ). bitXor x 0) (word-half k p) ∙ xor-zero-r (word k (λ i. p (suc i))) ∙ word-ext k _ _ (λ i g. sym (h (suc i) (suc-le-suc g) (λ e. omega arith))))
+    (ap (λ (x : ℕ). differ x 1) (word-odd k p ∙ ap (λ (t : Bool). when t 1) s) ∙ ap (λ (t : Bool). when t 1) (sym t))
 word-xor (suc k) (suc i) p q l s t h =
     xor-step (word (suc k) p) (2 ^ suc i)
     ∙ join
-      (ap₂ bitXor (word-half k p) (pow-half i) ∙ word-xor k i (λ x. p (suc x)) (λ x. q (suc x)) (le-of-suc-le-suc l) s t (λ x g n. h (suc x) (suc-le-suc g) (λ e. n (suc-inj e))))
-      (ap₂ differ (word-odd k p) (pow-odd i) ∙ differ-none (p 0) ∙ ap (λ (t : Bool). when t 1) (sym (h 0 (omega arith) (λ e. omega arith))))
+    (ap₂ bitXor (word-half k p) (pow-half i) ∙ word-xor k i (λ x. p (suc x)) (λ x. q (suc x)) (le-of-suc-le-suc l) s t (λ x g n. h (suc x) (suc-le-suc g) (λ e. n (suc-inj e))))
+    (ap₂ differ (word-odd k p) (pow-odd i) ∙ differ-none (p 0) ∙ ap (λ (t : Bool). when t 1) (sym (h 0 (omega arith) (λ e. omega arith))))

@@ -26,8 +26,13 @@ merged-turn {map} {weights} {weights′} {c} {d} M e l =
 
 pub merged-room : {map weights weights′ : List ℕ} {c g : ℕ} (d : ℕ) → Merged map weights c weights′ → c < g → sumTo g (λ x. getD weights x 0) ≤ 33553920 → getD weights′ d 0 + getD weights c 0 ≤ 33553920
 merged-room {map} {weights} {weights′} {c} {g} d M l h =
-    omega (arith, M .is d, sumTo-mono c (λ x. when (eqb (getD map x 0) d) (getD weights x 0)) (λ x. getD weights x 0) (λ x _. when-le (eqb (getD map x 0) d) (getD weights x 0)),
-      sumTo-step c (λ x. getD weights x 0), sumTo-less (λ x. getD weights x 0) (c + 1) g (omega arith))
+    omega (
+      arith,
+      M .is d,
+      sumTo-mono c (λ x. when (eqb (getD map x 0) d) (getD weights x 0)) (λ x. getD weights x 0) (λ x _. when-le (eqb (getD map x 0) d) (getD weights x 0)),
+      sumTo-step c (λ x. getD weights x 0),
+      sumTo-less (λ x. getD weights x 0) (c + 1) g (omega arith),
+    )
 
 -- the costs of the first v vertices
 pub record Weighing (costs : List ℕ) (v : ℕ) (weights : List ℕ) : Type 0 where
@@ -42,8 +47,8 @@ weighing-turn {costs} {weights} {v} W l =
     record {
       tall = length-set weights v _ ∙ W .tall;
       is = λ c. either (eq-or-ne c v)
-        (λ e. rw (e, getD-set-same weights v (getD costs v 0) 0 (omega (arith, W .tall)), lt-ltb v (v + 1) (omega arith)))
-        (λ n. getD-set-other weights v c (getD costs v 0) 0 n ∙ W .is c
+          (λ e. rw (e, getD-set-same weights v (getD costs v 0) 0 (omega (arith, W .tall)), lt-ltb v (v + 1) (omega arith)))
+          (λ n. getD-set-other weights v c (getD costs v 0) 0 n ∙ W .is c
           ∙ by (ltb c v) (λ t. rw (t, lt-ltb c (v + 1) (omega (arith, ltb-true c v t)))) (λ t. rw (t, le-ltb c (v + 1) (omega (arith, ltb-false c v t)))));
     }
 

@@ -42,7 +42,15 @@ fn widen(src: &[u16], dst: &mut [u32])
 }
 
 // The lists of the vertices' own row, in front of all others.
-pub fn first(starts: &[u16], ends: &[u16], widths: &[u16], froms: &mut [u16], tos: &mut [u16], wides: &mut [u32], sizes: &mut [u16; 9])
+pub fn first(
+    starts: &[u16],
+    ends: &[u16],
+    widths: &[u16],
+    froms: &mut [u16],
+    tos: &mut [u16],
+    wides: &mut [u32],
+    sizes: &mut [u16; 9],
+)
     requires { ⌜ (length (now starts) ≤ 1024) × (length (now ends) ≡ length (now starts)) × (length (now widths) ≡ length (now starts)) ⌝ }
     requires { ⌜ (length (now starts) ≤ length (now froms)) × (length (now starts) ≤ length (now tos)) × (length (now starts) ≤ length (now wides)) ⌝ }
     ensures { λ _. ⌜ First (now (starts .entry)) (now (ends .entry)) (now (widths .entry)) (now (froms .entry)) (now (tos .entry)) (now (wides .entry)) (now (sizes .entry)) (now (froms .exit)) (now (tos .exit)) (now (wides .exit)) (now (sizes .exit)) ⌝ }
@@ -68,7 +76,17 @@ pub fn weigh(costs: &[u16], weights: &mut [u32; 512])
 }
 
 // Joins the edges at a, `size` of them, by the new numbers of their clusters, into the lists from b on. Answers how many there are.
-pub fn carry(map: &[u16], g: usize, h: usize, a: usize, size: usize, b: usize, froms: &mut [u16], tos: &mut [u16], widths: &mut [u32]) -> usize
+pub fn carry(
+    map: &[u16],
+    g: usize,
+    h: usize,
+    a: usize,
+    size: usize,
+    b: usize,
+    froms: &mut [u16],
+    tos: &mut [u16],
+    widths: &mut [u32],
+) -> usize
     requires { ⌜ Maps (now map) g h ⌝ }
     requires { ⌜ Between g (part (now froms) a size) (part (now tos) a size) (part (now widths) a size) ⌝ }
     requires { ⌜ (a + size ≤ b) × (b + size ≤ length (now froms)) × (b + size ≤ length (now tos)) × (b + size ≤ length (now widths)) ⌝ }
@@ -78,7 +96,16 @@ pub fn carry(map: &[u16], g: usize, h: usize, a: usize, size: usize, b: usize, f
     let mut to = [0; 1024];
     let mut width = [0; 1024];
     let e = a + size;
-    let count = joined_edges::join_edges(&map[..g], &froms[a..e], &tos[a..e], &widths[a..e], h, &mut from, &mut to, &mut width);
+    let count = joined_edges::join_edges(
+        &map[..g],
+        &froms[a..e],
+        &tos[a..e],
+        &widths[a..e],
+        h,
+        &mut from,
+        &mut to,
+        &mut width,
+    );
     copy(&from, count, froms, b);
     copy(&to, count, tos, b);
     copy32(&width, count, widths, b);

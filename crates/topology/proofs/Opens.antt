@@ -107,9 +107,9 @@ module _ (u b g : ℕ) (count pool : List ℕ) (l : b < 512) (tall : length coun
           wide = length-put pool b ∙ wide;
           is = fewer;
           keeps = λ marks S K.
-            pool-put _ pool K _ b l (λ x _. beside marks x)
-            (open-is g marks less b h
-            ∙ free-at marks less b (either (eq-or-ne (getD marks b 0) 0) (λ q. q) (λ q. absurd (omega (arith, S b l q)))) (at-b ∙ z));
+              pool-put _ pool K _ b l (λ x _. beside marks x)
+              (open-is g marks less b h
+              ∙ free-at marks less b (either (eq-or-ne (getD marks b 0) 0) (λ q. q) (λ q. absurd (omega (arith, S b l q)))) (at-b ∙ z));
         })
         (λ z.
         rw (e, ne-eqb (getD count b 0 - 1) 0 z)

@@ -176,7 +176,7 @@ order-onto A g small (suc k) marks n e h v l t =
     either (eq-or-ne v u) (λ q. rw y (0, omega arith, sym q))
     (λ q.
     let (i, li, ei) = order-onto A g small k (set marks u 1) (length-set marks u 1 ∙ n)
-        (suc-inj (sym (unmarked-count g u marks lu (omega arith) (ready-unmarked A g marks lu)) ∙ e)) (suc-inj (rw y at h)) v l (rw (getD-set-other marks u v 1 0 q) t) in
+    (suc-inj (sym (unmarked-count g u marks lu (omega arith) (ready-unmarked A g marks lu)) ∙ e)) (suc-inj (rw y at h)) v l (rw (getD-set-other marks u v 1 0 q) t) in
     rw y (suc i, omega arith, ei)))
     (λ f. let z = rw f at h in absurd (omega (arith, z)))
 

@@ -102,8 +102,8 @@ module _ (A : Arcs) (g v : ℕ) where
       let (new, old) = both (hit (set-of (suc r)) x) _ e in
       inr (countTo-grows g (hit (set-of r)) (hit (set-of (suc r))) x l (stays r) (not-yes _ old) new))
       (λ f. inl (listed-hits (suc r) ∙ listTo-ext g _ _ (λ x l. ap (λ (b : Bool). when b 1) (same-test (hit (set-of (suc r)) x) (hit (set-of r) x)
-        (λ t. by (hit (set-of r) x) (λ h. h) (λ n. absurd (no-bool (sym (any-none g _ f x l) ∙ both-i (hit (set-of (suc r)) x) _ t (rw n refl)))))
-        (stays r x))) ∙ sym (listed-hits r)))
+      (λ t. by (hit (set-of r) x) (λ h. h) (λ n. absurd (no-bool (sym (any-none g _ f x l) ∙ both-i (hit (set-of (suc r)) x) _ t (rw n refl)))))
+      (stays r x))) ∙ sym (listed-hits r)))
 
   settles : (r : ℕ) → (set-of (suc r) ≡ set-of r) ⊎ (r ≤ countTo g (hit (set-of r)))
   unfolding reachedAfter

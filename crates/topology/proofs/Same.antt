@@ -57,13 +57,13 @@ rise-there : (A B : Arcs) → Same A B → (levels : List ℕ) (v : ℕ) → max
 unfolding rise
 rise-there A B S levels v =
     max-le (A .count) _ _ (λ j l.
-      by (eqb (A .to j) v && not (eqb (A .from j) v))
-      (λ t.
-      let (p, r) = both (eqb (A .to j) v) _ t in
-      let (i, li, ef, et) = moved A B S v j l (eqb-true (A .to j) v p) (eqb-false (A .from j) v (not-yes _ r)) in
-      let h = max-ge (B .count) (λ x. when (eqb (B .to x) v && not (eqb (B .from x) v)) (suc (getD levels (B .from x) 0))) i li in
-      rw t (rw (ef, et, eq-eqb v v refl, r) at h))
-      (λ t. rw t (omega arith)))
+    by (eqb (A .to j) v && not (eqb (A .from j) v))
+    (λ t.
+    let (p, r) = both (eqb (A .to j) v) _ t in
+    let (i, li, ef, et) = moved A B S v j l (eqb-true (A .to j) v p) (eqb-false (A .from j) v (not-yes _ r)) in
+    let h = max-ge (B .count) (λ x. when (eqb (B .to x) v && not (eqb (B .from x) v)) (suc (getD levels (B .from x) 0))) i li in
+    rw t (rw (ef, et, eq-eqb v v refl, r) at h))
+    (λ t. rw t (omega arith)))
 
 after-same : (A B : Arcs) → Same A B → (g r : ℕ) → levelsAfter A g r ≡ levelsAfter B g r
 unfolding levelsAfter

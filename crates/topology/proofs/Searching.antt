@@ -103,7 +103,7 @@ module _ {A : Arcs} {v u m n : ℕ} {head next marks queue : List ℕ} (L : Link
         done = λ i h e ne.
             either (eq-or-ne i j) (λ q. rw (q, ← eb) (E .done (λ z. ne (ap (A .to) q ∙ sym eb ∙ z))))
             (λ d. by (ltb i j) (λ t. E .grown _ (S .done i (ltb-true i j t) e ne))
-              (λ t. absurd ((rw (o .at l) at (L .nexts j l)) .skips i (omega (arith, ltb-false i j t)) h (leave-at A i e ne))));
+            (λ t. absurd ((rw (o .at l) at (L .nexts j l)) .skips i (omega (arith, ltb-false i j t)) h (leave-at A i e ne))));
       }
 
   -- a walk goes to what an edge from u goes to

@@ -82,7 +82,17 @@ fn pass(u: usize, b: usize, g: usize, count: &mut [u16; 512], pool: &mut [u64; 9
 }
 
 // Takes the edges of u off the counts, and puts what then waits for nothing into the pool.
-fn release(row: &[u16], starts: &[u16], ends: &[u16], head: &[u16; 513], next: &[u16; 1024], u: usize, g: usize, count: &mut [u16; 512], pool: &mut [u64; 9])
+fn release(
+    row: &[u16],
+    starts: &[u16],
+    ends: &[u16],
+    head: &[u16; 513],
+    next: &[u16; 1024],
+    u: usize,
+    g: usize,
+    count: &mut [u16; 512],
+    pool: &mut [u64; 9],
+)
     requires { ⌜ Joins (now row) (now starts) (now ends) ⌝ }
     requires { ⌜ Linked (leave (arcs (now row) (now starts) (now ends))) (length (now starts)) (now head) (now next) ⌝ }
     requires { ⌜ u < 512 ⌝ }
@@ -100,7 +110,15 @@ fn release(row: &[u16], starts: &[u16], ends: &[u16], head: &[u16; 513], next: &
 }
 
 // Writes the clusters in topological order to the front of out, by the lists of the edges that leave each, and answers how many it took.
-pub fn order_by(row: &[u16], starts: &[u16], ends: &[u16], head: &[u16; 513], next: &[u16; 1024], g: usize, out: &mut [u16]) -> usize
+pub fn order_by(
+    row: &[u16],
+    starts: &[u16],
+    ends: &[u16],
+    head: &[u16; 513],
+    next: &[u16; 1024],
+    g: usize,
+    out: &mut [u16],
+) -> usize
     requires { ⌜ Joins (now row) (now starts) (now ends) ⌝ }
     requires { ⌜ Linked (leave (arcs (now row) (now starts) (now ends))) (length (now starts)) (now head) (now next) ⌝ }
     requires { ⌜ (g ≤ 512) × (g ≤ length (now out)) ⌝ }
@@ -141,7 +159,17 @@ pub fn order(row: &[u16], starts: &[u16], ends: &[u16], g: usize, out: &mut [u16
 }
 
 // Marks b and puts it into the queue, unless it is u or marked already. Answers how many the queue then holds.
-fn enter(row: &[u16], starts: &[u16], ends: &[u16], v: usize, u: usize, b: usize, marks: &mut [u8; 512], queue: &mut [u16; 512], n: usize) -> usize
+fn enter(
+    row: &[u16],
+    starts: &[u16],
+    ends: &[u16],
+    v: usize,
+    u: usize,
+    b: usize,
+    marks: &mut [u8; 512],
+    queue: &mut [u16; 512],
+    n: usize,
+) -> usize
     requires { ⌜ Queued (arcs (now row) (now starts) (now ends)) v (now marks) (now queue) n ⌝ }
     requires { ⌜ b < 512 ⌝ }
     requires { ⌜ ((b ≡ u → ⊥) → Walk (Edge (arcs (now row) (now starts) (now ends))) v b) ⌝ }
@@ -159,7 +187,18 @@ fn enter(row: &[u16], starts: &[u16], ends: &[u16], v: usize, u: usize, b: usize
 }
 
 // Enters what the edges from u go to.
-fn spread(row: &[u16], starts: &[u16], ends: &[u16], head: &[u16; 513], next: &[u16; 1024], v: usize, u: usize, marks: &mut [u8; 512], queue: &mut [u16; 512], n: usize) -> usize
+fn spread(
+    row: &[u16],
+    starts: &[u16],
+    ends: &[u16],
+    head: &[u16; 513],
+    next: &[u16; 1024],
+    v: usize,
+    u: usize,
+    marks: &mut [u8; 512],
+    queue: &mut [u16; 512],
+    n: usize,
+) -> usize
     requires { ⌜ Joins (now row) (now starts) (now ends) ⌝ }
     requires { ⌜ Linked (leave (arcs (now row) (now starts) (now ends))) (length (now starts)) (now head) (now next) ⌝ }
     requires { ⌜ Queued (arcs (now row) (now starts) (now ends)) v (now marks) (now queue) n ⌝ }
@@ -178,7 +217,15 @@ fn spread(row: &[u16], starts: &[u16], ends: &[u16], head: &[u16; 513], next: &[
 }
 
 // Whether a walk from v comes back to it.
-fn returns_to(row: &[u16], starts: &[u16], ends: &[u16], head: &[u16; 513], next: &[u16; 1024], g: usize, v: usize) -> bool
+fn returns_to(
+    row: &[u16],
+    starts: &[u16],
+    ends: &[u16],
+    head: &[u16; 513],
+    next: &[u16; 1024],
+    g: usize,
+    v: usize,
+) -> bool
     requires { ⌜ Joins (now row) (now starts) (now ends) ⌝ }
     requires { ⌜ Linked (leave (arcs (now row) (now starts) (now ends))) (length (now starts)) (now head) (now next) ⌝ }
     requires { ⌜ Inside (arcs (now row) (now starts) (now ends)) g ⌝ }
@@ -187,11 +234,33 @@ fn returns_to(row: &[u16], starts: &[u16], ends: &[u16], head: &[u16; 513], next
 {
     let mut marks = [0u8; 512];
     let mut queue = [0u16; 512];
-    let mut count = spread(row, starts, ends, head, next, v, v, &mut marks, &mut queue, 0);
+    let mut count = spread(
+        row,
+        starts,
+        ends,
+        head,
+        next,
+        v,
+        v,
+        &mut marks,
+        &mut queue,
+        0,
+    );
     let mut i: usize = 0;
     while i < count {
         let u = folds::wide(queue[i]);
-        count = spread(row, starts, ends, head, next, v, u, &mut marks, &mut queue, count);
+        count = spread(
+            row,
+            starts,
+            ends,
+            head,
+            next,
+            v,
+            u,
+            &mut marks,
+            &mut queue,
+            count,
+        );
         i += 1;
     }
     marks[v] != 0

@@ -177,7 +177,16 @@ fn mark(stamp: u16, now: u16) -> u8
 }
 
 // Marks the edges of s that repeat an earlier one: those that go to a vertex that is stamped already.
-fn mark_repeats(row: &[u16], starts: &[u16], ends: &[u16], head: &[u16; 513], next: &[u16; 1024], s: usize, stamps: &mut [u16; 512], again: &mut [u8; 1024])
+fn mark_repeats(
+    row: &[u16],
+    starts: &[u16],
+    ends: &[u16],
+    head: &[u16; 513],
+    next: &[u16; 1024],
+    s: usize,
+    stamps: &mut [u16; 512],
+    again: &mut [u8; 1024],
+)
     requires { ⌜ Fits (now row) (now starts) (now ends) ⌝ }
     requires { ⌜ Linked (via (now row) (now starts)) (length (now starts)) (now head) (now next) ⌝ }
     requires { ⌜ s < 512 ⌝ }
@@ -223,7 +232,10 @@ pub fn find_repeat(row: &[u16], starts: &[u16], ends: &[u16]) -> Repeated
     let mut j: usize = 0;
     while j < starts.len() {
         if again[j] != 0 {
-            return Repeated { place: j, tried: j + 1 };
+            return Repeated {
+                place: j,
+                tried: j + 1,
+            };
         }
         j += 1;
     }
@@ -274,7 +286,16 @@ fn check_costs(costs: &[u16], starts: &[u16], ends: &[u16], widths: &[u16], boun
 }
 
 // Checks 1 to 8: at most `most` vertices; `room` is the caller's verdict of check 4.
-pub fn check(most: usize, costs: &[u16], starts: &[u16], ends: &[u16], widths: &[u16], k: usize, bound: u32, room: bool) -> Verdict
+pub fn check(
+    most: usize,
+    costs: &[u16],
+    starts: &[u16],
+    ends: &[u16],
+    widths: &[u16],
+    k: usize,
+    bound: u32,
+    room: bool,
+) -> Verdict
     requires { ⌜ most ≤ 512 ⌝ }
     ensures { λ r. ⌜ r ≡ checked most (graphOf (now (costs .entry)) (now (starts .entry)) (now (ends .entry)) (now (widths .entry))) k bound room ⌝ }
 {
