@@ -12,7 +12,7 @@
  *   call may write to one of them; lists that are only read may overlap.
  *   The calls keep no pointer and no state, allocate nothing and call nothing, so
  *   they may run on several threads at once on different tables. The split writes
- *   about 78,000 bytes of stack, whatever the kit (bench/run prints the figure).
+ *   about 149,000 bytes of stack, whatever the kit (bench/run prints the figure).
  *
  * What is answered
  *   Each call returns 0, or the number of the refusal (below). `answer` is never NULL and

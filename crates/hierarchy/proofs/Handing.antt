@@ -40,7 +40,7 @@ from-few A g (suc k) marks =
 
 order-few : (A : Arcs) (g : ℕ) → length (orderOf A g) ≤ g
 unfolding orderOf
-order-few A g = from-few A g g (zeros 512)
+order-few A g = from-few A g g (zeros g)
 
 -- places of rows of m entries
 pub next-place : (r m : ℕ) → r < 8 → r * m + m + m ≤ 9 * m

@@ -128,7 +128,7 @@ module _ (G : Graph) (k : ℕ) (B : Buildable G k) where
   first-handed ladder e = let z : 0 * n ≡ 0 = omega arith in let y : n - 0 ≡ n = omega arith in rw y (rw z at e)
 
   first-whole : {row : List ℕ} → row ≡ identity n → length (orderOf (arcs row (G .starts) (G .ends)) n) ≡ n
-  first-whole e = rw e (order-all (seen G (identity n)) n (row-inside (B .proper .formed) (identity-row G)) (B .proper .few) (B .acyclic))
+  first-whole e = rw e (order-all (seen G (identity n)) n (row-inside (B .proper .formed) (identity-row G)) (B .acyclic))
 
   pub first-joins : {row : List ℕ} → row ≡ identity n → sumTo m (λ j. getD (G .widths) j 0) ≤ 67107840 → Joins row (G .starts) (G .ends)
   first-joins e narrow = rw e (coarse-joins (own-lists narrow) (B .proper .few))

@@ -161,7 +161,7 @@ module _ {G : Graph} {ladder : List ℕ} {r g : ℕ} {froms tos widths sizes ord
       order-length : length order ≡ clusters next
       order-length =
           ap length order-is
-          ∙ order-all (seen G next) (clusters next) (row-inside (P .formed) next-row) (omega (arith, next-low, P .few))
+          ∙ order-all (seen G next) (clusters next) (row-inside (P .formed) next-row)
           (next-sound G row (roundOf G bound row) (P .formed) S (round-keeps G bound row (P .formed) (S .row-of)) .acyclic)
 
       order-fits : r * n + n + n ≤ length orders

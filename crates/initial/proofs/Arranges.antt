@@ -30,7 +30,7 @@ inverse-turn {g} {i} {a} {order} {at} O l e I =
 -- the order of a row's clusters, and its inverse
 module _ (A : Arcs) (g : ℕ) (order : List ℕ) (inside : Inside A g) (small : g ≤ 512) (acyclic : Acyclic (Edge A)) (q : take g order ≡ orderOf A g) where
   all : length (orderOf A g) ≡ g
-  all = order-all A g inside small acyclic
+  all = order-all A g inside acyclic
 
   long : g ≤ length order
   long = omega (arith, all, length-take g order, ap length q)
@@ -42,8 +42,8 @@ module _ (A : Arcs) (g : ℕ) (order : List ℕ) (inside : Inside A g) (small : 
   order-is-once =
       record {
         long = long;
-        low = λ i h. rw (front i h) (omega (arith, order-below A g inside small i (omega (arith, all))));
-        once = λ i j h k e. order-once A g inside small i j (omega (arith, all)) (omega (arith, all)) (sym (front i h) ∙ e ∙ front j k);
+        low = λ i h. rw (front i h) (omega (arith, order-below A g inside i (omega (arith, all))));
+        once = λ i j h k e. order-once A g inside i j (omega (arith, all)) (omega (arith, all)) (sym (front i h) ∙ e ∙ front j k);
       }
 
   pub through-places : (row at : List ℕ) → ((v : ℕ) → v < length row → getD row v 0 < g) → Inverse g order at → through row at ≡ placesIn A g row
@@ -51,5 +51,5 @@ module _ (A : Arcs) (g : ℕ) (order : List ℕ) (inside : Inside A g) (small : 
   through-places row at low I =
       listTo-ext (length row) _ _ (λ v h.
       let c = getD row v 0 in
-      let (p, e) = place-at A g inside small all c (low v h) in
+      let (p, e) = place-at A g inside all c (low v h) in
       ap (λ (x : ℕ). getD at x 0) (sym (front (placeIn (orderOf A g) c) p ∙ e)) ∙ I .is (placeIn (orderOf A g) c) p)

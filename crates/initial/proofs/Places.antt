@@ -27,7 +27,7 @@ module _ (G : Graph) (row : List ℕ) (F : Formed G) (R : RowOf G row (clusters 
   inside = row-inside F R
 
   all : length (orderOf (seen G row) (clusters row)) ≡ clusters row
-  all = order-all (seen G row) (clusters row) inside small acyclic
+  all = order-all (seen G row) (clusters row) inside acyclic
 
   pub place-is : (v : ℕ) → v < vertices G → getD (placesOf G row) v 0 ≡ placeIn (orderOf (seen G row) (clusters row)) (getD row v 0)
   unfolding placesIn
@@ -44,14 +44,14 @@ module _ (G : Graph) (row : List ℕ) (F : Formed G) (R : RowOf G row (clusters 
   place-row =
       record {
         whole = place-whole;
-        below = λ v l. rw (place-is v l) (place-at (seen G row) (clusters row) inside small all (getD row v 0) (R .below v l) .0);
+        below = λ v l. rw (place-is v l) (place-at (seen G row) (clusters row) inside all (getD row v 0) (R .below v l) .0);
       }
 
   place-onto : ((c : ℕ) → c < clusters row → (v : ℕ) × (v < vertices G) × (getD row v 0 ≡ c)) → (p : ℕ) → p < clusters row → (v : ℕ) × (v < vertices G) × (getD (placesOf G row) v 0 ≡ p)
   place-onto onto p l =
       let order = orderOf (seen G row) (clusters row) in
-      let (v, h, e) = onto (getD order p 0) (order-below (seen G row) (clusters row) inside small p (omega (arith, all))) in
-      (v, h, place-is v h ∙ ap (placeIn order) e ∙ place-of (seen G row) (clusters row) inside small all p l)
+      let (v, h, e) = onto (getD order p 0) (order-below (seen G row) (clusters row) inside p (omega (arith, all))) in
+      (v, h, place-is v h ∙ ap (placeIn order) e ∙ place-of (seen G row) (clusters row) inside all p l)
 
   place-forward : (j : ℕ) → j < edges G → via (placesOf G row) (G .starts) j ≤ via (placesOf G row) (G .ends) j
   place-forward j l =
@@ -62,7 +62,7 @@ module _ (G : Graph) (row : List ℕ) (F : Formed G) (R : RowOf G row (clusters 
       either (eq-or-ne (getD row s 0) (getD row t 0))
       (λ e. let q = place-shared s t ls lt e in omega arith)
       (λ n.
-      let h = order-rises (seen G row) (clusters row) inside small all (getD row s 0) (getD row t 0) (arc-edge (seen G row) j l n) in
+      let h = order-rises (seen G row) (clusters row) inside all (getD row s 0) (getD row t 0) (arc-edge (seen G row) j l n) in
       omega (arith, place-is s ls, place-is t lt))
 
   pub placed : ((c : ℕ) → c < clusters row → (v : ℕ) × (v < vertices G) × (getD row v 0 ≡ c)) → Placed G (clusters row) (placesOf G row)

@@ -118,7 +118,7 @@ module _ (A : Arcs) (g : ℕ) (Y : Layered A g) where
           (λ q. absurd (L .nexts j l .skips i (omega (arith, ltb-false i j t)) h (leave-at A i e n ∙ sym (o .at l)))))
 
   all : length (orderOf A g) ≡ g
-  all = order-all A g (Y .inside) (Y .small) (Y .acyclic)
+  all = order-all A g (Y .inside) (Y .acyclic)
 
   pub swept-none : Swept A g 0 (zeros 512)
   swept-none = record { under = record { tall = length-zeros 512; most = λ v. rw (getD-zeros 512 v) (omega arith) }; counts = λ a b t l. absurd (omega arith) }
@@ -132,9 +132,9 @@ module _ (A : Arcs) (g : ℕ) (Y : Layered A g) where
   pub swept-at : {i u : ℕ} {order levels : List ℕ} → Ordered A g order → i < g → u ≡ getD order i 0 → Swept A g i levels → (u < g) × (getD levels u 0 ≡ level A g u)
   swept-at {i} {u} {order} {levels} O l e S =
       let q : u ≡ getD (orderOf A g) i 0 = e ∙ O .is i l in
-      let h : u < g = rw q (order-below A g (Y .inside) (Y .small) i (omega (arith, all))) in
-      let p : placeIn (orderOf A g) u ≡ i = ap (placeIn (orderOf A g)) q ∙ place-of A g (Y .inside) (Y .small) all i l in
-      (h, swept-level i u levels S h (λ a t. omega (arith, order-rises A g (Y .inside) (Y .small) all a u t)))
+      let h : u < g = rw q (order-below A g (Y .inside) i (omega (arith, all))) in
+      let p : placeIn (orderOf A g) u ≡ i = ap (placeIn (orderOf A g)) q ∙ place-of A g (Y .inside) all i l in
+      (h, swept-level i u levels S h (λ a t. omega (arith, order-rises A g (Y .inside) all a u t)))
 
   pub swept-turn : {i u : ℕ} {order levels levels′ : List ℕ} → Ordered A g order → i < g → u ≡ getD order i 0 → Swept A g i levels → Raised A g u (A .count) levels levels′ → Swept A g (i + 1) levels′
   swept-turn {i} {u} {order} {levels} {levels′} O l e S R =
@@ -148,7 +148,7 @@ module _ (A : Arcs) (g : ℕ) (Y : Layered A g) where
     where
       at : (a b : ℕ) → Edge A a b → placeIn (orderOf A g) a ≡ i → a ≡ u
       at a b t q =
-          sym (place-at A g (Y .inside) (Y .small) all a (edge-inside A g (Y .inside) a b t .0) .1) ∙ ap (λ (z : ℕ). getD (orderOf A g) z 0) q ∙ sym (O .is i l) ∙ sym e
+          sym (place-at A g (Y .inside) all a (edge-inside A g (Y .inside) a b t .0) .1) ∙ ap (λ (z : ℕ). getD (orderOf A g) z 0) q ∙ sym (O .is i l) ∙ sym e
 
       mine : (a b : ℕ) → Edge A a b → a ≡ u → level A g a < getD levels′ b 0
       mine a b t q =
@@ -167,5 +167,5 @@ module _ (A : Arcs) (g : ℕ) (Y : Layered A g) where
       entry : (v : ℕ) → getD levels v 0 ≡ level A g v
       entry v =
           by (ltb v g)
-          (λ t. swept-level i v levels S (ltb-true v g t) (λ a e. let p = place-at A g (Y .inside) (Y .small) all a (edge-inside A g (Y .inside) a v e .0) .0 in omega arith))
+          (λ t. swept-level i v levels S (ltb-true v g t) (λ a e. let p = place-at A g (Y .inside) all a (edge-inside A g (Y .inside) a v e .0) .0 in omega arith))
           (λ t. omega (arith, S .under .most v, level-past A g v (ltb-false v g t)))

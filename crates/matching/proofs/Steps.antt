@@ -121,7 +121,7 @@ module _ (G : Graph) (row levels costs : List ℕ) (g bound : ℕ) (C : Context 
   inside = row-inside (C .ready .proper .formed) (C .ready .row-of)
 
   all : length (orderOf (seen G row) g) ≡ g
-  all = order-all (seen G row) g inside (C .ready .small) (C .ready .acyclic)
+  all = order-all (seen G row) g inside (C .ready .acyclic)
 
   pub rounding-none : {mates : List ℕ} → mates ≡ listTo 512 (λ c. c) → Rounding G row levels g bound 0 mates (zeros 512) (zeros 512) 0
   unfolding visits
@@ -136,7 +136,7 @@ module _ (G : Graph) (row levels costs : List ℕ) (g bound : ℕ) (C : Context 
       })
 
   pub order-low : {i u : ℕ} {order : List ℕ} → Ordered (seen G row) g order → i < g → u ≡ getD order i 0 → u < 512
-  order-low {i} O l e = let h = order-below (seen G row) g inside (C .ready .small) i (omega (arith, all)) in omega (arith, O .is i l, C .ready .small)
+  order-low {i} O l e = let h = order-below (seen G row) g inside i (omega (arith, all)) in omega (arith, O .is i l, C .ready .small)
 
   pub rounding-turn : {i u r count : ℕ} {order mates tos blocked mates′ tos′ blocked′ : List ℕ} → Ordered (seen G row) g order → i < g → u ≡ getD order i 0
       → Rounding G row levels g bound i mates tos blocked count

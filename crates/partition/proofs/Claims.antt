@@ -149,8 +149,8 @@ module _ (G : Graph) (k bound : ℕ) (valid : Valid G k bound) where
       let g = clusters (rowOf G k bound r) in
       let inside = row-inside (sound .proper .formed) (kept .row r l) in
       let small : g ≤ 512 = omega (arith, few-clusters kept r l, sound .proper .few) in
-      let all = order-all A g inside small (kept .acyclic r l) in
-      record { all = all; each = λ c lc. place-at A g inside small all c lc .1; rises = order-rises A g inside small all }
+      let all = order-all A g inside (kept .acyclic r l) in
+      record { all = all; each = λ c lc. place-at A g inside all c lc .1; rises = order-rises A g inside all }
 
   -- FROM THE ANSWER TO THE CLAIMS: with room for its tables, the split answers what the phases gave, or 9
   module _ (table ladder : List ℕ) (lt : vertices G ≤ length table) (ll : 9 * vertices G ≤ length ladder) where
@@ -199,7 +199,7 @@ module _ (G : Graph) (k bound : ℕ) (valid : Valid G k bound) where
         room = rw (length-over (tally .parts) table (omega (arith, I .whole)), le-leb _ _ lt) (le-leb _ _ lo)
 
         sorted : orderOf (seen G (tally .parts)) k ≡ identity k
-        sorted = order-sorted (seen G (tally .parts)) k (omega (arith, sound .few)) (λ j l. I .forward j l)
+        sorted = order-sorted (seen G (tally .parts)) k (λ j l. I .forward j l)
 
 -- WHAT A CALLER HAS: an answer of number 0 says that the graph was valid and there was room, and so all of the above
 pub split-answered : (G : Graph) (k bound : ℕ) (table ladder : List ℕ) → splitOf G k bound table ladder .number ≡ 0

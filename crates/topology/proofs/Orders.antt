@@ -88,16 +88,16 @@ module _ (A : Arcs) (g : ℕ) (inside : Inside A g) where
       (λ f. absurd (omega (arith, sumTo-none g (λ v. when (unmarked marks v) 1) (λ v l. rw (any-none g (unmarked marks) f v l)))))
 
   -- it takes all that are left, or there is a cycle
-  takes : (small : g ≤ 512) (k : ℕ) (marks : List ℕ) → length marks ≡ 512 → countTo g (unmarked marks) ≡ k → (length (orderFrom A g k marks) ≡ k) ⊎ Cycle (Edge A)
+  takes : (k : ℕ) (marks : List ℕ) → g ≤ length marks → countTo g (unmarked marks) ≡ k → (length (orderFrom A g k marks) ≡ k) ⊎ Cycle (Edge A)
   unfolding orderFrom orNone
-  takes small zero marks n e = inl refl
-  takes small (suc k) marks n e =
+  takes zero marks n e = inl refl
+  takes (suc k) marks n e =
       by (ltb (firstTo g (ready A marks)) g)
       (λ t.
       let l = ltb-true (firstTo g (ready A marks)) g t in
       let u = firstTo g (ready A marks) in
       let m : unmarked marks u ≡ true = ready-unmarked A g marks l in
-      either (takes small k (set marks u 1) (length-set marks u 1 ∙ n) (suc-inj (sym (unmarked-count g u marks l (omega arith) m) ∙ e)))
+      either (takes k (set marks u 1) (rw (length-set marks u 1) n) (suc-inj (sym (unmarked-count g u marks l (omega arith) m) ∙ e)))
       (λ h. inl (rw t (ap suc h))) (λ c. inr c))
       (λ f.
       let (v, l, t) = some-left marks k e in
@@ -149,53 +149,56 @@ module _ (A : Arcs) (g : ℕ) (marks l : List ℕ) (v : ℕ) (lv : v < g) (room 
   takes-cons : Takes A g marks (v ∷ l)
   takes-cons = record { below = cons-below; fresh = cons-fresh; once = cons-once; after = cons-after }
 
-order-takes : (A : Arcs) (g : ℕ) → g ≤ 512 → (k : ℕ) (marks : List ℕ) → length marks ≡ 512 → Takes A g marks (orderFrom A g k marks)
+order-takes : (A : Arcs) (g k : ℕ) (marks : List ℕ) → g ≤ length marks → Takes A g marks (orderFrom A g k marks)
 unfolding orderFrom orNone
-order-takes A g small zero marks n = takes-none A g marks
-order-takes A g small (suc k) marks n =
+order-takes A g zero marks n = takes-none A g marks
+order-takes A g (suc k) marks n =
     by (ltb (firstTo g (ready A marks)) g)
     (λ t.
     let l = ltb-true (firstTo g (ready A marks)) g t in
     rw t
     (takes-cons A g marks _ (firstTo g (ready A marks)) l (omega arith) (ready-unmarked A g marks l) (ready-after A g marks l)
-    (order-takes A g small k (set marks (firstTo g (ready A marks)) 1) (length-set marks _ 1 ∙ n))))
+    (order-takes A g k (set marks (firstTo g (ready A marks)) 1) (rw (length-set marks (firstTo g (ready A marks)) 1) n))))
     (λ f. rw f (takes-none A g marks))
 
 -- each that is left is taken, where as many are taken as are left
-order-onto : (A : Arcs) (g : ℕ) → g ≤ 512 → (k : ℕ) (marks : List ℕ) → length marks ≡ 512 → countTo g (unmarked marks) ≡ k → length (orderFrom A g k marks) ≡ k
+order-onto : (A : Arcs) (g k : ℕ) (marks : List ℕ) → g ≤ length marks → countTo g (unmarked marks) ≡ k → length (orderFrom A g k marks) ≡ k
     → (v : ℕ) → v < g → unmarked marks v ≡ true → (i : ℕ) × (i < k) × (getD (orderFrom A g k marks) i 0 ≡ v)
 unfolding orderFrom orNone countTo
-order-onto A g small zero marks n e h v l t =
+order-onto A g zero marks n e h v l t =
     let m : when (unmarked marks v) 1 ≤ sumTo g (λ x. when (unmarked marks x) 1) = sumTo-member g (λ x. when (unmarked marks x) 1) v l in
     let w = rw t at m in absurd (omega arith)
-order-onto A g small (suc k) marks n e h v l t =
+order-onto A g (suc k) marks n e h v l t =
     by (ltb (firstTo g (ready A marks)) g)
     (λ y.
     let u = firstTo g (ready A marks) in
     let lu = ltb-true u g y in
     either (eq-or-ne v u) (λ q. rw y (0, omega arith, sym q))
     (λ q.
-    let (i, li, ei) = order-onto A g small k (set marks u 1) (length-set marks u 1 ∙ n)
+    let (i, li, ei) = order-onto A g k (set marks u 1) (rw (length-set marks u 1) n)
     (suc-inj (sym (unmarked-count g u marks lu (omega arith) (ready-unmarked A g marks lu)) ∙ e)) (suc-inj (rw y at h)) v l (rw (getD-set-other marks u v 1 0 q) t) in
     rw y (suc i, omega arith, ei)))
     (λ f. let z = rw f at h in absurd (omega (arith, z)))
 
-module _ (A : Arcs) (g : ℕ) (inside : Inside A g) (small : g ≤ 512) where
-  all-unmarked : countTo g (unmarked (zeros 512)) ≡ g
-  all-unmarked = countTo-all g _ (λ v _. rw (getD-zeros 512 v))
+module _ (A : Arcs) (g : ℕ) (inside : Inside A g) where
+  tall : g ≤ length (zeros g)
+  tall = omega (arith, length-zeros g)
+
+  all-unmarked : countTo g (unmarked (zeros g)) ≡ g
+  all-unmarked = countTo-all g _ (λ v _. rw (getD-zeros g v))
 
   -- THE ORDER LAWS. It takes all, or there is a cycle:
   pub order-all-or : (length (orderOf A g) ≡ g) ⊎ Cycle (Edge A)
   unfolding orderOf
-  order-all-or = takes A g inside small g (zeros 512) (length-zeros 512) all-unmarked
+  order-all-or = takes A g inside g (zeros g) tall all-unmarked
 
   pub order-all : Acyclic (Edge A) → length (orderOf A g) ≡ g
   unfolding Acyclic
   order-all ac = either order-all-or (λ e. e) (λ c. absurd (ac c))
 
-  takes-zeros : Takes A g (zeros 512) (orderOf A g)
+  takes-zeros : Takes A g (zeros g) (orderOf A g)
   unfolding orderOf
-  takes-zeros = order-takes A g small g (zeros 512) (length-zeros 512)
+  takes-zeros = order-takes A g g (zeros g) tall
 
   -- each place has another number below g
   pub order-below : (i : ℕ) → i < length (orderOf A g) → getD (orderOf A g) i 0 < g
@@ -209,7 +212,7 @@ module _ (A : Arcs) (g : ℕ) (inside : Inside A g) (small : g ≤ 512) where
     pub place-at : (v : ℕ) → v < g → (placeIn (orderOf A g) v < g) × (getD (orderOf A g) (placeIn (orderOf A g) v) 0 ≡ v)
     unfolding orderOf placeIn
     place-at v l =
-        let (i, li, ei) = order-onto A g small g (zeros 512) (length-zeros 512) all-unmarked all v l (rw (getD-zeros 512 v)) in
+        let (i, li, ei) = order-onto A g g (zeros g) tall all-unmarked all v l (rw (getD-zeros g v)) in
         let p : ℕ → Bool = λ x. eqb (getD (orderOf A g) x 0) v in
         let f = firstTo-least (length (orderOf A g)) p i (eq-eqb _ v ei) in
         (omega arith, eqb-true _ _ (firstTo-hit (length (orderOf A g)) p (omega (arith, all))))
@@ -225,7 +228,7 @@ module _ (A : Arcs) (g : ℕ) (inside : Inside A g) (small : g ≤ 512) where
         let (la, lb) = edge-inside A g inside a b e in
         let (h, q) = place-at b lb in
         either (takes-zeros .after (placeIn (orderOf A g) b) a (omega (arith, all)) (rw q e))
-        (λ f. absurd (no-bool (sym f ∙ eq-eqb _ 0 (getD-zeros 512 a))))
+        (λ f. absurd (no-bool (sym f ∙ eq-eqb _ 0 (getD-zeros g a))))
         (λ w. let (j, lj, ej) = w in let k = place-of j (omega arith) in let r : placeIn (orderOf A g) a ≡ j = sym (ap (placeIn (orderOf A g)) ej) ∙ k in omega arith)
 
     pub all-acyclic : Acyclic (Edge A)

@@ -125,7 +125,7 @@ module _ (A : Arcs) (g v : ℕ) where
 module _ (A : Arcs) (g : ℕ) where
   pub on-cycle-walk : (v : ℕ) → onCycle A g v ≡ true → Walk (Edge A) v v
   unfolding onCycle
-  on-cycle-walk v t = reached-walk A g v g v t
+  on-cycle-walk v t = reached-walk A g v _ v t
 
   module _ (inside : Inside A g) where
     pub walk-on-cycle : (v : ℕ) → Walk (Edge A) v v → onCycle A g v ≡ true
@@ -158,5 +158,5 @@ module _ (A : Arcs) (g : ℕ) where
     none-acyclic e c = omega (arith, lowest-some c)
 
     -- the order took all: none lies on a cycle
-    pub all-taken : g ≤ 512 → {count : ℕ} → count ≡ length (orderOf A g) → count ≡ g → g ≡ lowestOnCycle A g
-    all-taken small e q = sym (lowest-none (all-acyclic A g inside small (sym e ∙ q)))
+    pub all-taken : {count : ℕ} → count ≡ length (orderOf A g) → count ≡ g → g ≡ lowestOnCycle A g
+    all-taken e q = sym (lowest-none (all-acyclic A g inside (sym e ∙ q)))

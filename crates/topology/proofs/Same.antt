@@ -1,16 +1,17 @@
--- Order and levels depend only on which clusters are joined, not on the edges that join them.
+-- Order and levels depend only on which clusters are joined, not on the edges that join them, nor on the length of a list of marks.
 use Prim.Native.Nat.{ℕ, zero, suc, _≤_, _<_}
 use mathlib.Core.Path.{_≡_, refl, sym, ap, _∙_}
 use mathlib.Core.Bool.{Bool, true, false, not, _&&_}
-use mathlib.Core.List.{List}
+use mathlib.Core.List.{List, _∷_}
 use native.Mathlib.Omega.{arith}
-use lib.Dec.{eqb}
-use lib.ListN.{getD, set}
-use borrow.Author.Tests.{eqb-true, eqb-false, eq-eqb, ne-eqb}
+use lib.Dec.{eqb, ltb}
+use lib.ListN.{length, getD, set, length-set}
+use lib.Seq.{getD-set-same, getD-set-other}
+use borrow.Author.Tests.{eqb-true, eqb-false, eq-eqb, ne-eqb, ltb-true}
 use Rattle.folds.specs.Fold.{when, anyTo, firstTo, maxTo, listTo, zeros}
-use Rattle.folds.proofs.Cases.{by, both, both-i, same-test, not-yes}
-use Rattle.folds.proofs.Searches.{any-i, any-e, firstTo-ext, max-ge, max-le}
-use Rattle.folds.proofs.Lists.{listTo-ext}
+use Rattle.folds.proofs.Cases.{by, either, both, both-i, same-test, not-yes, eq-or-ne}
+use Rattle.folds.proofs.Searches.{any-i, any-e, any-ext, firstTo-ext, max-ge, max-le}
+use Rattle.folds.proofs.Lists.{listTo-ext, getD-zeros, length-zeros}
 use Rattle.graph.specs.Graph.{Arcs, edge, Edge}
 use Rattle.graph.proofs.Edges.{arc-edge, edge-arc, edge-other}
 use Rattle.topology.specs.Order.{waits, ready, orNone, orderFrom, orderOf}
@@ -50,7 +51,35 @@ from-same A B S g (suc k) marks =
 
 pub order-same : (A B : Arcs) → Same A B → (g : ℕ) → orderOf A g ≡ orderOf B g
 unfolding orderOf
-order-same A B S g = from-same A B S g g (zeros 512)
+order-same A B S g = from-same A B S g g (zeros g)
+
+-- of the marks only their entries count, so that a longer list of them gives the same order
+ready-marks : (A : Arcs) (l m : List ℕ) → ((i : ℕ) → getD l i 0 ≡ getD m i 0) → (v : ℕ) → ready A l v ≡ ready A m v
+unfolding ready waits
+ready-marks A l m e v = rw (e v) (ap (λ (t : Bool). eqb (getD m v 0) 0 && not t) (any-ext (A .count) _ _ (λ j _. rw (e (A .from j)))))
+
+from-marks : (A : Arcs) (g k : ℕ) (l m : List ℕ) → g ≤ length l → g ≤ length m → ((i : ℕ) → getD l i 0 ≡ getD m i 0) → orderFrom A g k l ≡ orderFrom A g k m
+unfolding orderFrom orNone
+from-marks A g zero l m hl hm e = refl
+from-marks A g (suc k) l m hl hm e =
+    let u = firstTo g (ready A m) in
+    rw (firstTo-ext g (ready A l) (ready A m) (λ v _. ready-marks A l m e v))
+    (by (ltb u g)
+    (λ t.
+    let h = ltb-true u g t in
+    rw t
+    (ap (λ (z : List ℕ). u ∷ z)
+    (from-marks A g k (set l u 1) (set m u 1) (rw (length-set l u 1) hl) (rw (length-set m u 1) hm)
+    (λ i.
+    either (eq-or-ne i u)
+    (λ q. rw (q, getD-set-same l u 1 0 (omega arith), getD-set-same m u 1 0 (omega arith)))
+    (λ n. getD-set-other l u i 1 0 n ∙ e i ∙ sym (getD-set-other m u i 1 0 n))))))
+    (λ t. rw t))
+
+pub order-wide : (A : Arcs) (g w : ℕ) → g ≤ w → orderFrom A g g (zeros w) ≡ orderOf A g
+unfolding orderOf
+order-wide A g w h =
+    from-marks A g g (zeros w) (zeros g) (omega (arith, length-zeros w)) (omega (arith, length-zeros g)) (λ i. getD-zeros w i ∙ sym (getD-zeros g i))
 
 -- levels
 rise-there : (A B : Arcs) → Same A B → (levels : List ℕ) (v : ℕ) → maxTo (A .count) (rise A levels v) ≤ maxTo (B .count) (rise B levels v)

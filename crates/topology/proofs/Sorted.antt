@@ -25,10 +25,10 @@ unfolding run listTo
 run-cons i zero = ap (λ (x : ℕ). x ∷ []) (add-zero i)
 run-cons i (suc k) = ap₂ _++_ (run-cons i k) (ap (λ (x : ℕ). x ∷ []) (omega arith))
 
-module _ (A : Arcs) (g : ℕ) (small : g ≤ 512) (rises : (j : ℕ) → j < A .count → A .from j ≤ A .to j) where
+module _ (A : Arcs) (g : ℕ) (rises : (j : ℕ) → j < A .count → A .from j ≤ A .to j) where
   -- those below i are taken, and no others
   record Below (i : ℕ) (marks : List ℕ) : Type 0 where
-    tall : length marks ≡ 512
+    tall : g ≤ length marks
     taken : (x : ℕ) → x < i → getD marks x 0 ≡ 0 → ⊥
     left : (x : ℕ) → i ≤ x → getD marks x 0 ≡ 0
 
@@ -54,7 +54,7 @@ module _ (A : Arcs) (g : ℕ) (small : g ≤ 512) (rises : (j : ℕ) → j < A .
   below-next : (i : ℕ) (marks : List ℕ) → i < g → Below i marks → Below (suc i) (set marks i 1)
   below-next i marks l B =
       record {
-        tall = length-set marks i 1 ∙ B .tall;
+        tall = rw (length-set marks i 1) (B .tall);
         taken = λ x h. either (eq-or-ne x i)
             (λ e z. let q : _≡_ {A = ℕ} 1 0 = sym (getD-set-same marks i 1 0 (omega (arith, B .tall))) ∙ ap (λ (y : ℕ). getD (set marks i 1) y 0) (sym e) ∙ z in omega arith)
             (λ n z. B .taken x (omega arith) (sym (getD-set-other marks i x 1 0 n) ∙ z));
@@ -71,5 +71,5 @@ module _ (A : Arcs) (g : ℕ) (small : g ≤ 512) (rises : (j : ℕ) → j < A .
   pub order-sorted : orderOf A g ≡ identity g
   unfolding orderOf identity run
   order-sorted =
-      run-is g 0 (zeros 512) (omega arith) record { tall = length-zeros 512; taken = λ x h. absurd (omega arith); left = λ x _. getD-zeros 512 x }
+      run-is g 0 (zeros g) (omega arith) record { tall = omega (arith, length-zeros g); taken = λ x h. absurd (omega arith); left = λ x _. getD-zeros g x }
       ∙ listTo-ext g _ _ (λ x _. omega arith)

@@ -27,7 +27,7 @@ orderFrom A g (suc k) marks =
 
 -- document 01, play order: again and again take the lowest-numbered whose senders have all been taken
 unfoldable pub orderOf : Arcs → ℕ → List ℕ
-orderOf A g = orderFrom A g g (zeros 512)
+orderOf A g = orderFrom A g g (zeros g)
 
 -- the place of v in an order, or its length
 unfoldable pub placeIn : List ℕ → ℕ → ℕ

@@ -9,6 +9,6 @@ lowest-on-cycle-spec =
     (tie.spec
     (λ c. search needs)
     (λ c κs. let p = c .before .before .before .before .pre in (p .0, (p .1 .1, p .1 .1)))
-    (λ c. let p = c .before .before .before .before .before .before .before .pre in all-taken _ _ (p .1 .0) (p .1 .1) (c .before .before .order .ensures .0) (c .if1 .taken))
+    (λ c. let p = c .before .before .before .before .before .before .before .pre in all-taken _ _ (p .1 .0) (c .before .before .order .ensures .0) (c .if1 .taken))
     (λ c κs. let p = c .before .before .before .before .before .before .before .pre in (p .0, (p .1 .0, p .1 .1)))
     (λ c. search needs))

@@ -1,4 +1,5 @@
 use Rattle.topology.proofs.Waiting.{first-is, room, counted-next, order-more, order-stop, order-end}
+use Rattle.topology.proofs.Same.{order-wide}
 use Rattle.topology.proofs.Opens.{none-open, first-open, not-taken, settled-next, taken-next}
 use Rattle.topology.specs.Order.{orderFrom, orderOf}
 use Rattle.topology.specs.Counts.{openAt, Counted, Settled}
@@ -24,13 +25,13 @@ abbrev μ-loop : tie.MeasureT-loop
 μ-loop row starts ends head next g out₀ count₀ marks₀ pool₀ n₀ out count marks pool n = g - n
 
 pub order-by-spec : {M : Type 1} → statement M
-unfolding orderOf zeros
+unfolding zeros
 order-by-spec =
     tie.close
     (tie.spec Inv-loop μ-loop
     (λ c κs. search needs)
     (λ c κs. search needs)
-    (λ c. (omega arith, refl, c .before .before .before .counts .ensures, (λ v _ n. absurd (n (getD-zeros 512 v))), c .gather .ensures, rw sub-zero (wrote-none _ _)))
+    (λ c. (omega arith, refl, c .before .before .before .counts .ensures, (λ v _ n. absurd (n (getD-zeros 512 v))), c .gather .ensures, rw (sub-zero, order-wide _ _ 512 (c .before .before .before .before .before .before .before .before .before .pre .1 .1 .0)) (wrote-none _ _)))
     (λ c κs. pool-safe _ _ (c .before .before .loop .inv .4))
     (λ c. search needs)
     (λ c. let v = c .before .before .before .before .loop .inv in
