@@ -2,7 +2,7 @@
 use Prim.Native.Nat.{ℕ, zero, suc, _+_, _-_, _*_, _≤_, _<_, min}
 use mathlib.Core.Path.{_≡_, refl, ap, sym, _∙_}
 use mathlib.Core.Bool.{Bool, true, false}
-use mathlib.Core.Logic.{_⊎_}
+use mathlib.Core.Logic.{_⊎_, inl, inr}
 use mathlib.Core.List.{List, [], _∷_}
 use native.Mathlib.Omega.{arith}
 use lib.Dec.{ltb, leb, eqb}
@@ -14,7 +14,7 @@ use Rattle.folds.proofs.Searches.{firstTo-ext, firstTo-le}
 use Rattle.folds.proofs.Lists.{getD-past, set-at-most}
 use Rattle.folds.proofs.Cases.{by, either, eq-or-ne, when-more}
 use Rattle.folds.proofs.Sums.{sumTo-step, sumTo-none, sumTo-less, sumTo-mono, sumTo-ext, sumTo-add, sumTo-only}
-use Rattle.division.specs.Table.{best, noCut, cutIn, lowest, Low, Relaxed, span, within, Weights, onward, Lanes, Stored, Table, Column, Done, nextBy, startsBy, Within}
+use Rattle.division.specs.Table.{best, noCut, cutIn, lowest, Low, Relaxed, Topped, span, within, Weights, onward, Lanes, Stored, Table, Column, Done, nextBy, startsBy, Within}
 use Rattle.division.proofs.Intervals.{interval-first}
 use Rattle.division.proofs.Cells.{cut-next}
 
@@ -47,6 +47,27 @@ relaxed-low {at} {w} {n} {cuts} {l} {l′} L R =
           (λ t. omega (arith, L .low i, R .here i (ltb-true i n t)))
           (λ t. omega (arith, L .low i, R .other i (ltb-false i n t)));
     }
+
+-- offers at or above every lane
+pub relaxed-same : {at w m : ℕ} {cuts l : List ℕ} → length l ≡ 16 → Topped l m → m ≤ w → Relaxed at w cuts 16 l l
+relaxed-same t T h = record { tall = t; here = λ j k. omega (arith, T .top j k); other = λ j k. refl }
+
+pub topped-relaxed : {at w m : ℕ} {cuts l l′ : List ℕ} → Topped l m → Relaxed at w cuts 16 l l′ → Topped l′ m
+topped-relaxed T R = record { top = λ j k. omega (arith, T .top j k, R .here j k) }
+
+pub topped-none : Topped (replicate 16 noCut) noCut
+topped-none = record { top = λ j k. omega (arith, getD-replicate 16 j noCut 0 k) }
+
+-- m is the higher of b and x
+pub higher : {b m x : ℕ} {t : Bool} → t ≡ ltb b x → ((t ≡ true) × (m ≡ x)) ⊎ ((t ≡ false) × (m ≡ b)) → (b ≤ m) × (x ≤ m) × ((m ≡ x) ⊎ (m ≡ b))
+higher {b} {m} {x} e h =
+    either h
+    (λ a. let k = ltb-true b x (sym e ∙ a .0) in let q = a .1 in (omega arith, omega arith, inl q))
+    (λ a. let k = ltb-false b x (sym e ∙ a .0) in let q = a .1 in (omega arith, omega arith, inr q))
+
+-- one entry more, none above m
+pub top-turn : (l : List ℕ) {b m n : ℕ} → ((i : ℕ) → i < n → getD l i 0 ≤ b) → b ≤ m → getD l n 0 ≤ m → (i : ℕ) → i < n + 1 → getD l i 0 ≤ m
+top-turn l {b} {m} {n} h le k i li = either (eq-or-ne i n) (λ q. rw q k) (λ q. omega (arith, h i (omega arith)))
 
 -- the least of a family: members that are none do not count
 lowest-le : (n : ℕ) (f : ℕ → ℕ) → lowest n f ≤ noCut

@@ -45,6 +45,10 @@ pub record Relaxed (at w : ℕ) (cuts : List ℕ) (n : ℕ) (lanes lanes′ : Li
   pub here : (j : ℕ) → j < n → getD lanes′ j 0 ≡ min (getD lanes j 0) (w + getD cuts (at + j) 0)
   pub other : (j : ℕ) → n ≤ j → getD lanes′ j 0 ≡ getD lanes j 0
 
+-- no lane is above r
+pub record Topped (lanes : List ℕ) (r : ℕ) : Type 0 where
+  pub top : (j : ℕ) → j < 16 → getD lanes j 0 ≤ r
+
 -- the sum of the entries from y to x - 1
 unfoldable pub span : List ℕ → ℕ → ℕ → ℕ
 span l y x = sumTo x (λ i. when (leb y i) (getD l i 0))

@@ -3,7 +3,7 @@ ghost use mathlib.Core.Path.{_≡_};
 ghost use Prim.Native.Nat.{_+_, _*_, _<_, _≤_, min};
 ghost use lib.ListN.{length};
 ghost use lib.Dec.{ltb};
-ghost use Rattle.division.specs.Table.{noCut, span, Low, Relaxed, Weights, Lanes, Stored, Table, Column, Fewest, Within};
+ghost use Rattle.division.specs.Table.{noCut, span, Low, Relaxed, Topped, Weights, Lanes, Stored, Table, Column, Fewest, Within};
 
 // a < b, compared as signed numbers: the lanes' loop is faster so.
 fn less(a: u32, b: u32) -> bool
@@ -36,6 +36,37 @@ fn relax(cut: &[u32; 8721], at: usize, w: u32, best: &mut [u32; 16])
     }
 }
 
+// The highest of the lanes.
+fn highest(best: &[u32; 16]) -> u32
+    requires { ⌜ Low (now best) ⌝ }
+    ensures { λ r. ⌜ Topped (now (best .entry)) r ⌝ }
+{
+    let mut m: u32 = 0;
+    let mut j: usize = 0;
+    while j < 16 {
+        m = if less(m, best[j]) { best[j] } else { m };
+        j += 1;
+    }
+    m
+}
+
+// The offers of end x at w, where no lane is above `most`: those at or above every lane change nothing.
+fn offer(cut: &[u32; 8721], x: usize, w: u32, most: u32, best: &mut [u32; 16]) -> u32
+    requires { ⌜ Low (now cut) ⌝ }
+    requires { ⌜ Low (now best) ⌝ }
+    requires { ⌜ (x ≤ 512) × (w ≤ 67107840) × (length (now best) ≡ 16) ⌝ }
+    requires { ⌜ Topped (now best) most ⌝ }
+    ensures { λ _. ⌜ Relaxed (x * 17) w (now (cut .entry)) 16 (now (best .entry)) (now (best .exit)) ⌝ }
+    ensures { λ r. ⌜ Topped (now (best .exit)) r ⌝ }
+{
+    if w >= most {
+        return most;
+    }
+    relax(cut, x * 17, w, best);
+    // the highest lane is looked up again at every 16th end
+    if x % 16 == 0 { highest(best) } else { most }
+}
+
 // Stores the lanes: those of 1 to 16 starts.
 fn store(best: &[u32; 16], at: usize, cut: &mut [u32; 8721])
     requires { ⌜ Low (now best) ⌝ }
@@ -66,6 +97,7 @@ fn reach(
     ensures { λ r. ⌜ Lanes bound y g (now (cost .entry)) (now (away .entry)) (now (into .entry)) (now (cut .entry)) r ⌝ }
 {
     let mut best = [1073741824u32; 16];
+    let mut most: u32 = 1073741824;
     let mut load = cost[y];
     let mut out = away[y] - into[y];
     let mut x = y + 1;
@@ -73,7 +105,7 @@ fn reach(
         if load > bound {
             return best;
         }
-        relax(cut, x * 17, out, &mut best);
+        most = offer(cut, x, out, most, &mut best);
         load = load + cost[x];
         out = out + away[x] - into[x];
         x += 1;
