@@ -12,10 +12,14 @@ use Rattle.folds.specs.Fold.{pick, firstTo}
 use Rattle.folds.proofs.Cases.{by, both}
 use Rattle.folds.proofs.Searches.{firstTo-found, firstTo-all}
 use Rattle.division.specs.Division.{Pick, none, some, better, given}
-use Rattle.division.specs.Table.{bestBelow, ahead, best, noCut, cutIn, lowest, Done, leads, nextBy, startsBy}
+use Rattle.division.specs.Table.{bestBelow, ahead, best, noCut, cutIn, lowest, own, Done, leads, nextBy, startsBy}
 use Rattle.division.proofs.Picks.{best-first}
 use Rattle.division.proofs.Best.{outs}
 use Rattle.division.proofs.Wins.{ahead-some, best-holds}
+
+pub own-most : (y : ℕ) → own y ≤ 1
+own-most zero = omega arith
+own-most (suc y) = omega arith
 
 -- an interval passes the test if one around it does
 abbrev pub Monotone : (ℕ → ℕ → Bool) → Type 0
@@ -71,7 +75,7 @@ module _ (g : ℕ) (ok : ℕ → ℕ → Bool) (out : ℕ → ℕ → ℕ) (narr
   best-stop y c l e = by (ltb y g && ok y g) (λ t. cc) (λ t. cc)
 
   -- reading the table
-  module _ (mono : Monotone ok) (cuts : List ℕ) (D : Done g ok out 0 cuts) where
+  module _ (mono : Monotone ok) (cuts : List ℕ) (n : ℕ) (few : n ≤ 16) (D : Done n g ok out 0 cuts) where
     -- the next start, and that those before it cut more
     best-next : (j y c : ℕ) (l : List ℕ) → best g ok out (suc j) y ≡ some c l
         → (x : ℕ) × (x < g) × (d : ℕ) × (m : List ℕ) × (y < x) × (best g ok out j x ≡ some d m) × (l ≡ x ∷ m) × (c ≡ out y x + d)
@@ -87,17 +91,17 @@ module _ (g : ℕ) (ok : ℕ → ℕ → Bool) (out : ℕ → ℕ → ℕ) (narr
         above z none q h k = omega (arith, ap cutIn q, best-small (suc j) y c l e)
         above z (some a f) q h k = omega (arith, ap cutIn q, k (out y z + a) (z ∷ f) (ap (ahead z (out y z)) q))
 
-    next-is : (j y c : ℕ) (l : List ℕ) → j < 16 → y < g → best g ok out (suc j) y ≡ some c l
+    next-is : (j y c : ℕ) (l : List ℕ) → own y + suc j ≤ n → y < g → best g ok out (suc j) y ≡ some c l
         → (d : ℕ) × (m : List ℕ) × (nextBy g out cuts j y < g) × (best g ok out j (nextBy g out cuts j y) ≡ some d m) × (l ≡ nextBy g out cuts j y ∷ m)
     unfolding nextBy
     next-is j y c l h ly e =
         let (x, lx, d, m, u, b, q, s, before) = best-next j y c l e in
         let goal : getD cuts (y * 17 + (j + 1)) 0 ≡ c = D .done y (j + 1) (omega arith) ly (omega arith) ∙ ap cutIn (ap (λ (i : ℕ). best g ok out i y) (add-one j) ∙ e) in
-        let hit : out y x + getD cuts (x * 17 + j) 0 ≡ getD cuts (y * 17 + (j + 1)) 0 = omega (arith, goal, D .done x j (omega arith) lx (omega arith), ap cutIn b, s) in
+        let hit : out y x + getD cuts (x * 17 + j) 0 ≡ getD cuts (y * 17 + (j + 1)) 0 = omega (arith, goal, D .done x j (omega arith) lx (omega (arith, own-most x)), ap cutIn b, s) in
         let here : leads out cuts j y x ≡ true = rw (lt-ltb y x u) (eq-eqb _ _ hit) in
         let skip : firstTo x (leads out cuts j y) ≡ x = firstTo-all x _ (λ z k.
         by (ltb y z)
-        (λ t. rw t (ne-eqb _ _ (miss z (before z (ltb-true y z t) k h) goal (D .done z j (omega arith) (omega arith) (omega arith)))))
+        (λ t. rw t (ne-eqb _ _ (miss z (before z (ltb-true y z t) k (omega arith)) goal (D .done z j (omega arith) (omega arith) (omega (arith, own-most z))))))
         (λ t. rw t)) in
         let is : nextBy g out cuts j y ≡ x = firstTo-found g x _ skip here lx in
         (d, m, rw is lx, rw is b, rw is q)
@@ -106,22 +110,22 @@ module _ (g : ℕ) (ok : ℕ → ℕ → Bool) (out : ℕ → ℕ → ℕ) (narr
             → out y z + getD cuts (z * 17 + j) 0 ≡ getD cuts (y * 17 + (j + 1)) 0 → ⊥
         miss z a b e i = omega arith
 
-    starts-is : (j y c : ℕ) (l : List ℕ) → j < 17 → y < g → best g ok out j y ≡ some c l → startsBy g out cuts j y ≡ l
+    starts-is : (j y c : ℕ) (l : List ℕ) → own y + j ≤ n → y < g → best g ok out j y ≡ some c l → startsBy g out cuts j y ≡ l
     unfolding startsBy
     starts-is zero y c l h ly e = best-stop y c l e
     starts-is (suc j) y c l h ly e =
-        let (d, m, lx, b, q) = next-is j y c l (omega arith) ly e in
-        ap (λ l. nextBy g out cuts j y ∷ l) (starts-is j (nextBy g out cuts j y) d m (omega arith) lx b) ∙ sym q
+        let (d, m, lx, b, q) = next-is j y c l h ly e in
+        ap (λ l. nextBy g out cuts j y ∷ l) (starts-is j (nextBy g out cuts j y) d m (omega (arith, own-most (nextBy g out cuts j y))) lx b) ∙ sym q
 
     -- a cell with a cut: the least division has it, and its starts follow; a cell with none: there is no division
-    pub read-some : (j y : ℕ) → j < 17 → y < g → getD cuts (y * 17 + j) 0 < noCut → best g ok out j y ≡ some (getD cuts (y * 17 + j) 0) (startsBy g out cuts j y)
+    pub read-some : (j y : ℕ) → own y + j ≤ n → y < g → getD cuts (y * 17 + j) 0 < noCut → best g ok out j y ≡ some (getD cuts (y * 17 + j) 0) (startsBy g out cuts j y)
     read-some j y h ly lt = go (best g ok out j y) refl
       where
         go : (p : Pick (List ℕ)) → best g ok out j y ≡ p → best g ok out j y ≡ some (getD cuts (y * 17 + j) 0) (startsBy g out cuts j y)
         go none q = absurd (omega (arith, D .done y j (omega arith) ly h, ap cutIn q))
         go (some c l) q = q ∙ ap₂ some (sym (D .done y j (omega arith) ly h ∙ ap cutIn q)) (sym (starts-is j y c l h ly q))
 
-    pub read-none : (j y : ℕ) → j < 17 → y < g → noCut ≤ getD cuts (y * 17 + j) 0 → best g ok out j y ≡ none
+    pub read-none : (j y : ℕ) → own y + j ≤ n → y < g → noCut ≤ getD cuts (y * 17 + j) 0 → best g ok out j y ≡ none
     read-none j y h ly le = go (best g ok out j y) refl
       where
         go : (p : Pick (List ℕ)) → best g ok out j y ≡ p → best g ok out j y ≡ none

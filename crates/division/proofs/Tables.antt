@@ -14,9 +14,9 @@ use Rattle.folds.proofs.Searches.{firstTo-ext, firstTo-le}
 use Rattle.folds.proofs.Lists.{getD-past, set-at-most}
 use Rattle.folds.proofs.Cases.{by, either, eq-or-ne, when-more}
 use Rattle.folds.proofs.Sums.{sumTo-step, sumTo-none, sumTo-less, sumTo-mono, sumTo-ext, sumTo-add, sumTo-only}
-use Rattle.division.specs.Table.{best, noCut, cutIn, lowest, Low, Relaxed, Topped, span, within, Weights, onward, Lanes, Stored, Table, Column, Done, nextBy, startsBy, Within}
+use Rattle.division.specs.Table.{best, noCut, cutIn, lowest, Low, Relaxed, Topped, span, within, Weights, onward, Lanes, Stored, Table, Filled, Column, own, Done, nextBy, startsBy, Within}
 use Rattle.division.proofs.Intervals.{interval-first}
-use Rattle.division.proofs.Cells.{cut-next}
+use Rattle.division.proofs.Cells.{own-most, cut-next}
 
 -- offers to the lanes
 pub keep-yes : (b x : ℕ) {t : Bool} → t ≡ ltb x b → t ≡ true → x ≡ min b x
@@ -49,14 +49,14 @@ relaxed-low {at} {w} {n} {cuts} {l} {l′} L R =
     }
 
 -- offers at or above every lane
-pub relaxed-same : {at w m : ℕ} {cuts l : List ℕ} → length l ≡ 16 → Topped l m → m ≤ w → Relaxed at w cuts 16 l l
+pub relaxed-same : {at w n m : ℕ} {cuts l : List ℕ} → length l ≡ 16 → Topped n l m → m ≤ w → Relaxed at w cuts n l l
 relaxed-same t T h = record { tall = t; here = λ j k. omega (arith, T .top j k); other = λ j k. refl }
 
-pub topped-relaxed : {at w m : ℕ} {cuts l l′ : List ℕ} → Topped l m → Relaxed at w cuts 16 l l′ → Topped l′ m
+pub topped-relaxed : {at w n m : ℕ} {cuts l l′ : List ℕ} → Topped n l m → Relaxed at w cuts n l l′ → Topped n l′ m
 topped-relaxed T R = record { top = λ j k. omega (arith, T .top j k, R .here j k) }
 
-pub topped-none : Topped (replicate 16 noCut) noCut
-topped-none = record { top = λ j k. omega (arith, getD-replicate 16 j noCut 0 k) }
+pub topped-none : {n : ℕ} → n ≤ 16 → Topped n (replicate 16 noCut) noCut
+topped-none h = record { top = λ j k. omega (arith, getD-replicate 16 j noCut 0 (omega arith)) }
 
 -- m is the higher of b and x
 pub higher : {b m x : ℕ} {t : Bool} → t ≡ ltb b x → ((t ≡ true) × (m ≡ x)) ⊎ ((t ≡ false) × (m ≡ b)) → (b ≤ m) × (x ≤ m) × ((m ≡ x) ⊎ (m ≡ b))
@@ -156,24 +156,32 @@ module _ {g y : ℕ} {cost away into : List ℕ} (W : Weights g y cost away into
       let v = W .covers (x + 1) (omega arith) (omega arith) in
       (omega arith, omega arith, omega arith, omega arith)
 
-module _ (bound y : ℕ) (cost away into cuts : List ℕ) where
+pub low-none : Low (replicate 16 noCut)
+low-none =
+    record {
+      low = λ i.
+          by (ltb i 16)
+          (λ t. omega (arith, getD-replicate 16 i noCut 0 (ltb-true i 16 t)))
+          (λ t. omega (arith, getD-past (replicate 16 noCut) i (ltb-false i 16 t)));
+    }
+
+module _ (bound y n : ℕ) (cost away into cuts : List ℕ) where
   abbrev going : ℕ → ℕ → ℕ
   going j = onward bound y cost away into (λ z. getD cuts (z * 17 + j) 0)
 
-  pub lanes-none : Lanes bound y (y + 1) cost away into cuts (replicate 16 noCut)
+  pub lanes-none : n ≤ 16 → Lanes bound y n (y + 1) cost away into cuts (replicate 16 noCut)
   unfolding onward lowest
-  lanes-none =
+  lanes-none few =
       record {
         tall = refl;
-        low = record { low = λ i. by (ltb i 16) (λ t. omega (arith, blank i (ltb-true i 16 t))) (λ t. omega (arith, getD-past (replicate 16 noCut) i (ltb-false i 16 t))) };
-        here = λ j h. blank j h ∙ sym (lowest-skip (going j) 0 (y + 1) (omega arith) (λ i li k. rw (le-ltb y i (omega arith))));
+        low = low-none;
+        here = λ j h.
+            getD-replicate 16 j noCut 0 (omega arith)
+            ∙ sym (lowest-skip (going j) 0 (y + 1) (omega arith) (λ i li k. rw (le-ltb y i (omega arith))));
       }
-    where
-      blank : (i : ℕ) → i < 16 → getD (replicate 16 noCut) i 0 ≡ noCut
-      blank i h = getD-replicate 16 i noCut 0 h
 
-  module _ (x : ℕ) (l : List ℕ) (lt : y < x) (L : Lanes bound y x cost away into cuts l) where
-    pub lanes-turn : (w : ℕ) (l′ : List ℕ) → span cost y x ≤ bound → w + span into y x ≡ span away y x → Relaxed (x * 17) w cuts 16 l l′ → Lanes bound y (x + 1) cost away into cuts l′
+  module _ (x : ℕ) (l : List ℕ) (lt : y < x) (L : Lanes bound y n x cost away into cuts l) where
+    pub lanes-turn : (w : ℕ) (l′ : List ℕ) → span cost y x ≤ bound → w + span into y x ≡ span away y x → Relaxed (x * 17) w cuts n l l′ → Lanes bound y n (x + 1) cost away into cuts l′
     unfolding onward
     lanes-turn w l′ h e R =
         let q : span away y x - span into y x ≡ w = omega arith in
@@ -186,7 +194,7 @@ module _ (bound y : ℕ) (cost away into cuts : List ℕ) where
         }
 
     -- the interval has grown past the bound
-    pub lanes-over : (g : ℕ) → x ≤ g → bound < span cost y x → Lanes bound y g cost away into cuts l
+    pub lanes-over : (g : ℕ) → x ≤ g → bound < span cost y x → Lanes bound y n g cost away into cuts l
     unfolding onward
     lanes-over g k h =
         record {
@@ -215,33 +223,57 @@ stored-turn {at} {n} {lanes} {cuts} {cuts′} L T la ln S =
       other = λ z h. getD-set-other cuts′ i z r 0 (λ e. h n (omega arith) e) ∙ S .other z (λ j k e. h j (omega arith) e);
     }
 
-pub column-is : {bound rest y g r : ℕ} {cost away into lanes cuts cuts′ : List ℕ} → y < 512 → Table cuts → Lanes bound y g cost away into cuts lanes → Stored (y * 17) 16 lanes cuts cuts′
-    → ((bound < rest) × (r ≡ noCut)) ⊎ ((rest ≤ bound) × (r ≡ 0)) → Column bound rest y g cost away into cuts (set cuts′ (y * 17) r)
-column-is {bound} {rest} {y} {g} {r} {cost} {away} {into} {lanes} {cuts} {cuts′} ly T L S h =
+pub filled-none : {bound y n g : ℕ} {cost away into cuts : List ℕ} → Low cuts → n ≡ 0 → Filled bound y n g cost away into cuts cuts
+filled-none L e =
+    record {
+      wide = 0;
+      lanes = replicate 16 noCut;
+      most = omega arith;
+      least = omega arith;
+      are = record { tall = refl; low = low-none; here = λ j h. absurd (omega arith) };
+      stored = stored-none L;
+    }
+
+-- lanes that are not wanted
+pub filled-more : {bound y n i g : ℕ} {cost away into cuts cuts′ : List ℕ} → n ≤ i → Filled bound y i g cost away into cuts cuts′ → Filled bound y n g cost away into cuts cuts′
+filled-more h F = record { wide = F .wide; lanes = F .lanes; most = F .most; least = omega (arith, F .least); are = F .are; stored = F .stored }
+
+-- a start itself, or the first position
+pub own-first : (n y : ℕ) → y ≡ 0 → n ≡ n - own y
+own-first n y e = rw e (omega arith)
+
+pub own-later : (n y : ℕ) → (y ≡ 0 → ⊥) → n - 1 ≡ n - own y
+own-later n zero h = absurd (h refl)
+own-later n (suc y) h = refl
+
+pub column-is : {bound rest y n g r : ℕ} {cost away into cuts cuts′ : List ℕ} → y < 512 → Table cuts → Filled bound y (n - own y) g cost away into cuts cuts′
+    → ((bound < rest) × (r ≡ noCut)) ⊎ ((rest ≤ bound) × (r ≡ 0)) → Column bound rest y n g cost away into cuts (set cuts′ (y * 17) r)
+column-is {bound} {rest} {y} {n} {g} {r} {cost} {away} {into} {cuts} {cuts′} ly T F h =
+    let S = F .stored in
     let at = y * 17 in
     let lr : r ≤ noCut = either h (λ a. omega (arith, a .1)) (λ a. omega (arith, a .1)) in
     record {
       table = record { tall = length-set cuts′ at r ∙ S .tall ∙ T .tall; low = record { low = set-at-most cuts′ at r noCut noCut (omega arith) lr (S .low .low) } };
       last = getD-set-same cuts′ at r 0 (omega (arith, S .tall, T .tall)) ∙ either h (λ a. rw (lt-leb rest bound (a .0)) (a .1)) (λ a. rw (le-leb rest bound (a .0)) (a .1));
-      here = λ j h. getD-set-other cuts′ at (at + (j + 1)) r 0 (λ q. omega arith) ∙ S .here j h ∙ L .here j (omega arith);
-      other = λ z j h n. getD-set-other cuts′ at (z * 17 + j) r 0 (λ q. n (omega arith)) ∙ S .other (z * 17 + j) (λ i k q. n (omega arith));
+      here = λ j h. getD-set-other cuts′ at (at + (j + 1)) r 0 (λ q. omega arith) ∙ S .here j (omega (arith, F .least)) ∙ F .are .here j (omega (arith, F .least));
+      other = λ z j h ne. getD-set-other cuts′ at (z * 17 + j) r 0 (λ q. ne (omega arith)) ∙ S .other (z * 17 + j) (λ i k q. ne (omega (arith, F .most)));
     }
 
 -- the cuts of y, filled by a sweep over weights that are those of the intervals from y on
-pub done-none : {g : ℕ} {ok : ℕ → ℕ → Bool} {out : ℕ → ℕ → ℕ} {cuts : List ℕ} → Table cuts → Done g ok out g cuts
+pub done-none : {n g : ℕ} {ok : ℕ → ℕ → Bool} {out : ℕ → ℕ → ℕ} {cuts : List ℕ} → Table cuts → Done n g ok out g cuts
 done-none T = record { table = T; done = λ x j l h k. absurd (omega arith) }
 
-pub done-next : {g y bound rest : ℕ} {out : ℕ → ℕ → ℕ} {cost away into cuts cuts′ : List ℕ} → y < g → rest ≡ span cost y g → ((y x : ℕ) → out y x ≤ 67107840)
+pub done-next : {n g y bound rest : ℕ} {out : ℕ → ℕ → ℕ} {cost away into cuts cuts′ : List ℕ} → n ≤ 16 → y < g → rest ≡ span cost y g → ((y x : ℕ) → out y x ≤ 67107840)
     → ((x : ℕ) → y ≤ x → x ≤ g → span away y x ≡ out y x + span into y x)
-    → Done g (within cost bound) out (y + 1) cuts → Column bound rest y g cost away into cuts cuts′ → Done g (within cost bound) out y cuts′
+    → Done n g (within cost bound) out (y + 1) cuts → Column bound rest y n g cost away into cuts cuts′ → Done n g (within cost bound) out y cuts′
 unfolding best onward
-done-next {g} {y} {bound} {rest} {out} {cost} {away} {into} {cuts} {cuts′} ly e narrow leaves D C =
+done-next {n} {g} {y} {bound} {rest} {out} {cost} {away} {into} {cuts} {cuts′} few ly e narrow leaves D C =
     record {
       table = C .table;
-      done = λ x j l lx lj. either (eq-or-ne x y) (λ e. rw e (here j lj)) (λ ne. C .other x j lj ne ∙ D .done x j (omega arith) lx lj);
+      done = λ x j l lx lj. either (eq-or-ne x y) (λ e. rw e (here j (rw e at lj))) (λ ne. C .other x j (omega arith) ne ∙ D .done x j (omega arith) lx lj);
     }
   where
-    here : (j : ℕ) → j < 17 → getD cuts′ (y * 17 + j) 0 ≡ cutIn (best g (within cost bound) out j y)
+    here : (j : ℕ) → own y + j ≤ n → getD cuts′ (y * 17 + j) 0 ≡ cutIn (best g (within cost bound) out j y)
     here zero l =
         let q : y * 17 + 0 ≡ y * 17 = omega arith in
         rw (q, C .last, e, lt-ltb y g ly, ← within-is cost bound y g) (by (within cost bound y g) (λ t. rw t) (λ t. rw t))
@@ -253,7 +285,7 @@ done-next {g} {y} {bound} {rest} {out} {cost} {away} {into} {cuts} {cuts′} ly 
         (λ t.
         let h = ltb-true y x t in
         let w : span away y x - span into y x ≡ out y x = omega (arith, leaves x (omega arith) (omega arith)) in
-        rw (t, w, D .done x j (omega arith) lx (omega arith)))
+        rw (t, w, D .done x j (omega arith) lx (omega (arith, own-most x))))
         (λ t. rw t))
         ∙ cut-next g (within cost bound) out narrow j y (omega arith)
 

@@ -45,9 +45,9 @@ pub record Relaxed (at w : ℕ) (cuts : List ℕ) (n : ℕ) (lanes lanes′ : Li
   pub here : (j : ℕ) → j < n → getD lanes′ j 0 ≡ min (getD lanes j 0) (w + getD cuts (at + j) 0)
   pub other : (j : ℕ) → n ≤ j → getD lanes′ j 0 ≡ getD lanes j 0
 
--- no lane is above r
-pub record Topped (lanes : List ℕ) (r : ℕ) : Type 0 where
-  pub top : (j : ℕ) → j < 16 → getD lanes j 0 ≤ r
+-- none of the first n lanes is above r
+pub record Topped (n : ℕ) (lanes : List ℕ) (r : ℕ) : Type 0 where
+  pub top : (j : ℕ) → j < n → getD lanes j 0 ≤ r
 
 -- the sum of the entries from y to x - 1
 unfoldable pub span : List ℕ → ℕ → ℕ → ℕ
@@ -70,11 +70,11 @@ pub record Weights (g y : ℕ) (cost away into : List ℕ) : Type 0 where
 unfoldable pub onward : ℕ → ℕ → List ℕ → List ℕ → List ℕ → (ℕ → ℕ) → ℕ → ℕ
 onward bound y cost away into f x = pick (ltb y x && within cost bound y x) (span away y x - span into y x + f x) noCut
 
--- lane j has the least cut of j + 1 starts after y, of which the first is below x
-pub record Lanes (bound y x : ℕ) (cost away into cuts lanes : List ℕ) : Type 0 where
+-- lane j, of n, has the least cut of j + 1 starts after y, of which the first is below x
+pub record Lanes (bound y n x : ℕ) (cost away into cuts lanes : List ℕ) : Type 0 where
   pub tall : length lanes ≡ 16
   pub low : Low lanes
-  pub here : (j : ℕ) → j < 16 → getD lanes j 0 ≡ lowest x (onward bound y cost away into (λ z. getD cuts (z * 17 + j) 0))
+  pub here : (j : ℕ) → j < n → getD lanes j 0 ≡ lowest x (onward bound y cost away into (λ z. getD cuts (z * 17 + j) 0))
 
 -- n lanes are stored from at + 1 on
 pub record Stored (at n : ℕ) (lanes cuts cuts′ : List ℕ) : Type 0 where
@@ -87,17 +87,31 @@ pub record Table (cuts : List ℕ) : Type 0 where
   pub tall : length cuts ≡ 8721
   pub low : Low cuts
 
--- the cuts of position y, of g positions whose cost from y on is `rest`
-pub record Column (bound rest y g : ℕ) (cost away into cuts cuts′ : List ℕ) : Type 0 where
+-- at least n lanes of position y are stored, at most 16
+pub record Filled (bound y n g : ℕ) (cost away into cuts cuts′ : List ℕ) : Type 0 where
+  pub wide : ℕ
+  pub lanes : List ℕ
+  pub most : wide ≤ 16
+  pub least : n ≤ wide
+  pub are : Lanes bound y wide g cost away into cuts lanes
+  pub stored : Stored (y * 17) wide lanes cuts cuts′
+
+-- every position but the first is a start itself
+abbrev pub own : ℕ → ℕ
+own zero = 0
+own (suc y) = 1
+
+-- the cuts that a division with n starts can have at position y, of g positions whose cost from y on is `rest`
+pub record Column (bound rest y n g : ℕ) (cost away into cuts cuts′ : List ℕ) : Type 0 where
   pub table : Table cuts′
   pub last : getD cuts′ (y * 17) 0 ≡ pick (leb rest bound) 0 noCut
-  pub here : (j : ℕ) → j < 16 → getD cuts′ (y * 17 + (j + 1)) 0 ≡ lowest g (onward bound y cost away into (λ z. getD cuts (z * 17 + j) 0))
+  pub here : (j : ℕ) → own y + j < n → getD cuts′ (y * 17 + (j + 1)) 0 ≡ lowest g (onward bound y cost away into (λ z. getD cuts (z * 17 + j) 0))
   pub other : (z j : ℕ) → j < 17 → (z ≡ y → ⊥) → getD cuts′ (z * 17 + j) 0 ≡ getD cuts (z * 17 + j) 0
 
--- the least cuts are known from position y on
-pub record Done (g : ℕ) (ok : ℕ → ℕ → Bool) (out : ℕ → ℕ → ℕ) (y : ℕ) (cuts : List ℕ) : Type 0 where
+-- these cuts are the least, from position y on
+pub record Done (n g : ℕ) (ok : ℕ → ℕ → Bool) (out : ℕ → ℕ → ℕ) (y : ℕ) (cuts : List ℕ) : Type 0 where
   pub table : Table cuts
-  pub done : (x j : ℕ) → y ≤ x → x < g → j < 17 → getD cuts (x * 17 + j) 0 ≡ cutIn (best g ok out j x)
+  pub done : (x j : ℕ) → y ≤ x → x < g → own x + j ≤ n → getD cuts (x * 17 + j) 0 ≡ cutIn (best g ok out j x)
 
 -- the least start above y whose cut, with what leaves the interval up to it, is that of j + 1 starts after y; or g
 abbrev pub leads : (ℕ → ℕ → ℕ) → List ℕ → ℕ → ℕ → ℕ → Bool

@@ -132,19 +132,19 @@ module _ {places starts ends widths : List ℕ} {g : ℕ} (P : Positioned places
   -- a turn: what the sweep of position y - 1 asks, and what it leaves
   module _ (bound y : ℕ) (cost away into into′ cuts : List ℕ) (r rest : ℕ) (ly : 0 < y) (lg : y ≤ g) (small : g ≤ 512) (n : (k : ℕ) → getD widths k 0 < 65536)
       (C : Costs cost g) (F : Flows places starts ends widths g y away into) (R : Gathered places starts ends widths (y - 1) (length starts) into into′ r)
-      (e : rest ≡ span cost y g) (D : Done g (within cost bound) (leavingBy places starts ends widths) y cuts) where
+      {i : ℕ} (few : i ≤ 16) (e : rest ≡ span cost y g) (D : Done i g (within cost bound) (leavingBy places starts ends widths) y cuts) where
     pub turn-flows : Flows places starts ends widths g (y - 1) (set away (y - 1) r) into′
     turn-flows = let q : y ≡ (y - 1) + 1 = omega arith in flows-next (y - 1) away into into′ r (omega arith) (rw q at F) R
 
     pub turn-weights : Weights g (y - 1) cost (set away (y - 1) r) into′
     turn-weights = flows-weights (y - 1) (set away (y - 1) r) into′ turn-flows cost C n
 
-    pub turn-done : {cuts′ : List ℕ} → Column bound (rest + getD cost (y - 1) 0) (y - 1) g cost (set away (y - 1) r) into′ cuts cuts′
-        → Done g (within cost bound) (leavingBy places starts ends widths) (y - 1) cuts′
+    pub turn-done : {cuts′ : List ℕ} → Column bound (rest + getD cost (y - 1) 0) (y - 1) i g cost (set away (y - 1) r) into′ cuts cuts′
+        → Done i g (within cost bound) (leavingBy places starts ends widths) (y - 1) cuts′
     turn-done K =
         let q : y ≡ (y - 1) + 1 = omega arith in
-        done-next (omega arith) (rest-next cost ly lg e) (leaving-small n) (away-leaves (y - 1) (set away (y - 1) r) into′ turn-flows) (rw q at D) K
+        done-next few (omega arith) (rest-next cost ly lg e) (leaving-small n) (away-leaves (y - 1) (set away (y - 1) r) into′ turn-flows) (rw q at D) K
 
-pub tabled-end : {places starts ends widths cost : List ℕ} {bound g y : ℕ} {away into cuts : List ℕ} → Flows places starts ends widths g y away into
-    → Done g (within cost bound) (leavingBy places starts ends widths) y cuts → Tabled places starts ends widths cost bound g y away cuts
+pub tabled-end : {n : ℕ} {places starts ends widths cost : List ℕ} {bound g y : ℕ} {away into cuts : List ℕ} → Flows places starts ends widths g y away into
+    → Done n g (within cost bound) (leavingBy places starts ends widths) y cuts → Tabled n places starts ends widths cost bound g y away cuts
 tabled-end F D = record { aways = F .aways; done = D }

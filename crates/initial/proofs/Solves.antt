@@ -24,15 +24,15 @@ use Rattle.initial.proofs.Flows.{leaving-small}
 
 -- the table, read at position 0
 module _ {places starts ends widths cost : List ℕ} {bound g : ℕ} {away cuts : List ℕ} (P : Positioned places starts ends widths g) (small : (k : ℕ) → getD widths k 0 < 65536) (n : ℕ) (ln : n < 16)
-    (some-place : 0 < g) (T : Tabled places starts ends widths cost bound g 0 away cuts) where
+    (some-place : 0 < g) (T : Tabled n places starts ends widths cost bound g 0 away cuts) where
   pub solved-none : noCut ≤ getD cuts n 0 → best g (within cost bound) (leavingBy places starts ends widths) n 0 ≡ none
   solved-none h =
-      read-none g (within cost bound) (leavingBy places starts ends widths) (leaving-small P small) (within-monotone cost bound) cuts (T .done) n 0 (omega arith) some-place (rw (zero-add n) h)
+      read-none g (within cost bound) (leavingBy places starts ends widths) (leaving-small P small) (within-monotone cost bound) cuts n (omega arith) (T .done) n 0 (omega arith) some-place (rw (zero-add n) h)
 
   pub solved-some : getD cuts n 0 < noCut
       → best g (within cost bound) (leavingBy places starts ends widths) n 0 ≡ some (getD cuts n 0) (startsBy g (leavingBy places starts ends widths) cuts n 0)
   solved-some h =
-      read-some g (within cost bound) (leavingBy places starts ends widths) (leaving-small P small) (within-monotone cost bound) cuts (T .done) n 0 (omega arith) some-place (rw (zero-add n) h)
+      read-some g (within cost bound) (leavingBy places starts ends widths) (leaving-small P small) (within-monotone cost bound) cuts n (omega arith) (T .done) n 0 (omega arith) some-place (rw (zero-add n) h)
       ∙ ap (λ (i : ℕ). some (getD cuts i 0) (startsBy g (leavingBy places starts ends widths) cuts n 0)) (zero-add n)
 
 -- the starts that were written

@@ -84,10 +84,10 @@ pub record Costs (cost : List ℕ) (g : ℕ) : Type 0 where
   pub tall : length cost ≡ 512
   pub light : span cost 0 g ≤ 33553920
 
--- the least cuts are known from position y on
-pub record Tabled (places starts ends widths cost : List ℕ) (bound g y : ℕ) (away cuts : List ℕ) : Type 0 where
+-- the least cuts that a division with n starts can have are known from position y on
+pub record Tabled (n : ℕ) (places starts ends widths cost : List ℕ) (bound g y : ℕ) (away cuts : List ℕ) : Type 0 where
   pub aways : Aways places starts ends widths g y away
-  pub done : Done g (within cost bound) (leavingBy places starts ends widths) y cuts
+  pub done : Done n g (within cost bound) (leavingBy places starts ends widths) y cuts
 
 -- one row of a hierarchy: no cluster is empty, and they form no cycle
 pub record Layer (G : Graph) (row : List ℕ) : Type 0 where

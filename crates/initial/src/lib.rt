@@ -190,7 +190,7 @@ fn follow(
     }
 }
 
-// Fills the table of the least cuts, from the last position down.
+// Fills the table of the least cuts that a division with n starts can have, from the last position down.
 fn tabulate(
     starts: &[u16],
     ends: &[u16],
@@ -201,15 +201,16 @@ fn tabulate(
     link: &[u16; 1024],
     bound: u32,
     g: usize,
+    n: usize,
     away: &mut [u32; 512],
     cut: &mut [u32; 8721],
 )
     requires { ⌜ Positioned (now places) (now starts) (now ends) (now widths) g ⌝ }
     requires { ⌜ Linked (via (now places) (now starts)) (length (now starts)) (now head) (now link) ⌝ }
     requires { ⌜ Costs (now cost) g ⌝ }
-    requires { ⌜ (g ≤ 512) × (length (now away) ≡ 512) ⌝ }
+    requires { ⌜ (g ≤ 512) × (n ≤ 16) × (length (now away) ≡ 512) ⌝ }
     requires { ⌜ Table (now cut) ⌝ }
-    ensures { λ _. ⌜ Tabled (now (places .entry)) (now (starts .entry)) (now (ends .entry)) (now (widths .entry)) (now (cost .entry)) bound g 0 (now (away .exit)) (now (cut .exit)) ⌝ }
+    ensures { λ _. ⌜ Tabled n (now (places .entry)) (now (starts .entry)) (now (ends .entry)) (now (widths .entry)) (now (cost .entry)) bound g 0 (now (away .exit)) (now (cut .exit)) ⌝ }
 {
     let mut into = [0u32; 512];
     let mut rest: u32 = 0;
@@ -218,7 +219,7 @@ fn tabulate(
         y -= 1;
         away[y] = gather(places, starts, ends, widths, head, link, y, &mut into);
         rest += cost[y];
-        division::sweep(cost, away, &into, bound, g, y, rest, cut);
+        division::sweep(cost, away, &into, bound, g, y, n, rest, cut);
     }
 }
 
@@ -296,6 +297,7 @@ fn search(
         &link,
         bound,
         g,
+        n,
         &mut away,
         &mut cut,
     );

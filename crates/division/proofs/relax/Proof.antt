@@ -9,16 +9,16 @@ use Rattle.division.proofs.relax.Statement.{statement}
 use Rattle.division.proofs.relax.Tie as tie
 
 abbrev Inv-loop : tie.InvT-loop
-Inv-loop cut at w best₀ j₀ best j = (j ≤ 16) × Relaxed at w cut j best₀ best
+Inv-loop cut at w n best₀ j₀ best j = (j ≤ n) × Relaxed at w cut j best₀ best
 
 abbrev μ-loop : tie.MeasureT-loop
-μ-loop cut at w best₀ j₀ best j = 16 - j
+μ-loop cut at w n best₀ j₀ best j = n - j
 
 pub relax-spec : {M : Type 1} → statement M
 relax-spec =
     tie.close
     (tie.spec Inv-loop μ-loop
-    (λ c. (omega arith, relaxed-none (c .pre .1 .1 .2)))
+    (λ c. (omega arith, relaxed-none (c .pre .1 .1 .3)))
     (λ c. search needs)
     (λ c. search needs)
     (λ c. search needs)
@@ -30,5 +30,5 @@ relax-spec =
     (λ c. search needs)
     (λ c. search needs)
     (λ c. search needs)
-    (λ c. let l = c .before .before .before .before .loop in (omega arith, relaxed-turn (c .before .before .before .loop-test .taken) (l .inv .1) (c .keep .ensures)))
-    (λ c. let e : c .before .loop .j ≡ 16 = omega arith in rw e at (c .before .loop .inv .1)))
+    (λ c. let l = c .before .before .before .before .loop in (omega arith, relaxed-turn (omega arith) (l .inv .1) (c .keep .ensures)))
+    (λ c. let e : c .before .loop .j ≡ c .before .before .args .n = omega arith in rw e at (c .before .loop .inv .1)))

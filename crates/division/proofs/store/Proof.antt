@@ -9,10 +9,10 @@ use Rattle.division.proofs.store.Statement.{statement}
 use Rattle.division.proofs.store.Tie as tie
 
 abbrev Inv-loop : tie.InvT-loop
-Inv-loop best at cut₀ j₀ cut j = (j ≤ 16) × Stored at j best cut₀ cut
+Inv-loop best at n cut₀ j₀ cut j = (j ≤ n) × Stored at j best cut₀ cut
 
 abbrev μ-loop : tie.MeasureT-loop
-μ-loop best at cut₀ j₀ cut j = 16 - j
+μ-loop best at n cut₀ j₀ cut j = n - j
 
 pub store-spec : {M : Type 1} → statement M
 store-spec =
@@ -28,5 +28,5 @@ store-spec =
     (λ c. search needs)
     (λ c. search needs)
     (λ c. let p = c .before .before .before .pre in
-    (omega arith, stored-turn (p .0) (p .1 .0) (p .1 .1) (c .before .loop-test .taken) (c .before .before .loop .inv .1)))
-    (λ c. let e : c .before .loop .j ≡ 16 = omega arith in rw e at (c .before .loop .inv .1)))
+    (omega arith, stored-turn (p .0) (p .1 .0) (p .1 .1 .0) (omega arith) (c .before .before .loop .inv .1)))
+    (λ c. let e : c .before .loop .j ≡ c .before .before .args .n = omega arith in rw e at (c .before .loop .inv .1)))

@@ -18,7 +18,7 @@ search-spec =
     tie.close
     (tie.spec
     (λ c κs. (c .before .before .before .before .before .before .before .pre .0 .joins .out, refl))
-    (λ c κs. let p = c .before .before .before .before .before .before .before .before .before .before .before .before .pre in (p .0, (c .before .before .before .before .fill .ensures, (p .1 .0, ((p .1 .1 .1, refl), table-none)))))
+    (λ c κs. let p = c .before .before .before .before .before .before .before .before .before .before .before .before .pre in (p .0, (c .before .before .before .before .fill .ensures, (p .1 .0, ((p .1 .1 .1, omega (arith, p .1 .1 .2), refl), table-none)))))
     (λ c. search needs)
     (λ c. search needs)
     (λ c. let p = c .before .before .before .before .before .before .before .before .before .before .before .before .before .before .pre in
