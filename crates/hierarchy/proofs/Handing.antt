@@ -6,6 +6,7 @@ use native.Mathlib.Nat.{suc-mul, mul-le-mul-right}
 use native.Mathlib.Omega.{arith}
 use lib.Dec.{ltb}
 use lib.ListN.{length, getD, set, take, drop}
+use lib.Seq.{getD-set-same}
 use borrow.Rule.Slice.PartMut.{putMid}
 use Rattle.folds.specs.Fold.{pick, firstTo, listTo, over, put, part, zeros}
 use Rattle.folds.proofs.Cases.{by}
@@ -13,13 +14,13 @@ use Rattle.folds.proofs.Lists.{listTo-ext, listTo-getD, length-listTo}
 use Rattle.folds.proofs.Slices.{put-part, length-part, length-over, length-put}
 use Rattle.folds.proofs.Parts.{part-put}
 use Rattle.graph.specs.Graph.{Arcs, identity, arcs}
-use Rattle.graph.specs.Links.{Joins}
+use Rattle.graph.specs.Links.{Linked, Joins, leave}
 use Rattle.graph.proofs.Edges.{identity-at}
 use Rattle.graph.proofs.Coarse.{coarse-joins, coarse-inside}
 use Rattle.topology.specs.Order.{ready, orNone, orderFrom, orderOf}
 use Rattle.row_lists.specs.Carry.{Between, Maps, Next, Merged}
 use Rattle.row_lists.proofs.Carrying.{handed}
-use Rattle.hierarchy.specs.Built.{HandsOn, HandedOn}
+use Rattle.hierarchy.specs.Built.{LinkedAt, HandsOn, HandedOn}
 
 -- the front of the identity
 pub identity-front : (g n : ℕ) → g ≤ n → take g (identity n) ≡ identity g
@@ -86,3 +87,11 @@ module _ {map froms tos widths froms′ tos′ widths′ : List ℕ} {g h a size
       let k : c + n - c ≡ n = omega arith in
       let l : length (over o (part orders c n)) ≡ n = length-over o (part orders c n) (rw (length-part orders c n room) (omega (arith, order-few (arcs (identity h) (N .from) (N .to)) h))) ∙ length-part orders c n room in
       put-part orders (over o (part orders c n)) q c (c + n - c) p (k ∙ sym l)
+
+  pub next-links : {head next id : List ℕ} → id ≡ identity 512 → (r m : ℕ) (sizes : List ℕ) → b ≡ r * m + m → r < 8 → length sizes ≡ 9
+      → Linked (leave (arcs (take h id) (take (b + count - b) (drop b froms′)) (take (b + count - b) (drop b tos′)))) (length (take (b + count - b) (drop b froms′))) head next
+      → LinkedAt m (r + 1) h froms′ tos′ (set sizes (r + 1) count) head next
+  next-links {id = id} e r m sizes eb lr nine L =
+      let i : take h id ≡ identity h = ap (take h) e ∙ identity-front h 512 few in
+      let q : (r + 1) * m ≡ b = omega (arith, suc-mul r m) in
+      record { linked = rw (q, getD-set-same sizes (r + 1) count 0 (omega arith)) (rw (i, handed froms′ b count, handed tos′ b count) at L) }

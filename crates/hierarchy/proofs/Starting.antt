@@ -13,7 +13,7 @@ use Rattle.folds.proofs.Parts.{part-put}
 use Rattle.graph.specs.Graph.{Graph, vertices, edges, identity, arcs, seen, partCost}
 use Rattle.graph.specs.Rows.{clusters}
 use Rattle.graph.specs.Coarse.{Coarse, Stored}
-use Rattle.graph.specs.Links.{Joins}
+use Rattle.graph.specs.Links.{Linked, Joins, leave}
 use Rattle.graph.proofs.Edges.{row-inside, identity-row}
 use Rattle.graph.proofs.Coarse.{coarse-joins}
 use Rattle.topology.specs.Order.{orderOf}
@@ -22,7 +22,7 @@ use Rattle.contraction.proofs.Rounds.{identity-clusters}
 use Rattle.matching.specs.Held.{Weights}
 use Rattle.matching.proofs.Lists.{cost-identity}
 use Rattle.row_lists.specs.Carry.{First}
-use Rattle.hierarchy.specs.Built.{rowAt, Carried, Carrying, Room, Buildable}
+use Rattle.hierarchy.specs.Built.{rowAt, Carried, Carrying, LinkedAt, Room, Buildable}
 
 module _ (G : Graph) (k : ℕ) (B : Buildable G k) where
   abbrev n : ℕ
@@ -110,6 +110,19 @@ module _ (G : Graph) (k : ℕ) (B : Buildable G k) where
           nine = K .nine;
           long = omega (arith, M .order-room);
           order = λ r l. let q : r ≡ 0 = omega arith in rw (q, e, identity-clusters n) (order-front o);
+        }
+
+    pub first-links : {row head next : List ℕ} → row ≡ identity n → Linked (leave (arcs row (G .starts) (G .ends))) m head next → LinkedAt m 0 n froms′ tos′ sizes′ head next
+    first-links e L =
+        let z : getD sizes′ 0 0 ≡ m = rw (F .sizes-are) (getD-set-same sizes 0 m 0 (omega (arith, M .nine))) in
+        record {
+          linked = rw (
+            z,
+            F .froms-are,
+            F .tos-are,
+            front froms (G .starts) from-room,
+            rw (B .proper .formed .same-ends) at (front tos (G .ends) (omega (arith, to-room, B .proper .formed .same-ends))),
+          ) (rw e at L);
         }
 
   pub first-carrying : (ladder : List ℕ) {froms tos widths sizes orders weights : List ℕ} → rowAt G ladder 0 ≡ identity n → sumTo n (λ v. getD (G .costs) v 0) ≤ 33553920

@@ -14,6 +14,7 @@ use Rattle.folds.proofs.Parts.{part-put}
 use Rattle.graph.specs.Graph.{Graph, graphOf, vertices, edges, identity, arcs, seen, partCost, through, Proper, RowOf}
 use Rattle.graph.specs.Rows.{clusters}
 use Rattle.graph.specs.Coarse.{Coarse, Stored}
+use Rattle.graph.specs.Links.{Linked, leave}
 use Rattle.graph.proofs.Coarse.{coarse-edge}
 use Rattle.topology.specs.Order.{orderOf}
 use Rattle.topology.proofs.Same.{order-same}
@@ -29,10 +30,16 @@ use Rattle.matching.proofs.Choices.{round-keeps}
 use Rattle.row_lists.specs.Carry.{Between, Maps, Next, Merged}
 use Rattle.row_lists.proofs.Carrying.{handed}
 use Rattle.hierarchy.specs.Climb.{kept}
-use Rattle.hierarchy.specs.Built.{Carries, rowAt, Climbed, Climbs, Carried, Carrying, Room, HandsOn, HandedOn}
+use Rattle.hierarchy.specs.Built.{Carries, rowAt, Climbed, Climbs, Carried, Carrying, LinkedAt, Room, HandsOn, HandedOn}
 use Rattle.hierarchy.proofs.Climbs.{next-few, rows-in}
-use Rattle.hierarchy.proofs.Handing.{next-place}
+use Rattle.hierarchy.proofs.Handing.{next-place, identity-front}
 use Rattle.hierarchy.proofs.Storing.{part-before, next-of, stored-more, costs-total, renamed-through, next-costs, next-weights}
+
+-- the links of a row, as the code hands its lists on
+pub links-handed : {m r g s : ℕ} {froms tos sizes head next id : List ℕ} → id ≡ identity 512 → g ≤ 512 → s ≡ getD sizes r 0 → LinkedAt m r g froms tos sizes head next
+    → Linked (leave (arcs (take g id) (take (r * m + s - r * m) (drop (r * m) froms)) (take (r * m + s - r * m) (drop (r * m) tos)))) (length (take (r * m + s - r * m) (drop (r * m) froms))) head next
+links-handed {m} {r} {g} {s} {froms} {tos} {id = id} i l e L =
+    let own : take g id ≡ identity g = ap (take g) i ∙ identity-front g 512 l in rw (own, handed froms (r * m) s, handed tos (r * m) s, e) (L .linked)
 
 module _ {G : Graph} {ladder : List ℕ} {r g : ℕ} {froms tos widths sizes orders weights : List ℕ} (R : Ready G (rowAt G ladder r) g) (S : Sound G (rowAt G ladder r))
     (C : Carrying G ladder r g froms tos widths sizes orders weights) (small : g ≤ vertices G) where

@@ -8,6 +8,7 @@ use Rattle.graph.specs.Walk.{Acyclic}
 use Rattle.graph.specs.Graph.{Graph, vertices, edges, identity, arcs, seen, Edge, partCost, Proper}
 use Rattle.graph.specs.Rows.{clusters}
 use Rattle.graph.specs.Coarse.{Coarse, Stored}
+use Rattle.graph.specs.Links.{Linked, leave}
 use Rattle.topology.specs.Order.{orderOf}
 use Rattle.levels.specs.Sweep.{Ordered}
 use Rattle.contraction.specs.Next.{nextRow, Renamed}
@@ -59,6 +60,10 @@ pub record Carrying (G : Graph) (ladder : List ℕ) (r g : ℕ) (froms tos width
   pub carried : Carried G (rowAt G ladder) r froms tos widths sizes orders
   pub weighed : Weights g weights
   pub costs : (c : ℕ) → getD weights c 0 ≡ partCost (G .costs) (rowAt G ladder r) c
+
+-- the links of the edges that leave each of the g clusters of row r, by its lists
+pub record LinkedAt (m r g : ℕ) (froms tos sizes head next : List ℕ) : Type 0 where
+  pub linked : Linked (leave (arcs (identity g) (part froms (r * m) (getD sizes r 0)) (part tos (r * m) (getD sizes r 0)))) (length (part froms (r * m) (getD sizes r 0))) head next
 
 -- room for nine rows, their lists and their orders
 pub record Room (G : Graph) (ladder froms tos widths sizes orders : List ℕ) : Type 0 where

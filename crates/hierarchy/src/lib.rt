@@ -5,10 +5,11 @@ ghost use lib.ListN.{length, take};
 ghost use Rattle.contraction.specs.Next.{nextRow, Renamed};
 ghost use Rattle.contraction.proofs.Rounds.{Sound};
 ghost use Rattle.matching.specs.Choice.{roundOf};
-ghost use Rattle.graph.specs.Graph.{graphOf, identity};
+ghost use Rattle.graph.specs.Graph.{graphOf, identity, arcs};
+ghost use Rattle.graph.specs.Links.{Linked, leave};
 ghost use Rattle.matching.specs.Held.{Ready};
 ghost use Rattle.row_lists.specs.Carry.{Maps};
-ghost use Rattle.hierarchy.specs.Built.{Round, Carries, rowAt, Climbs, Carried, Carrying, Room, Steps, HandsOn, HandedOn, Buildable, Built};
+ghost use Rattle.hierarchy.specs.Built.{Round, Carries, rowAt, Climbs, Carried, Carrying, LinkedAt, Room, Steps, HandsOn, HandedOn, Buildable, Built};
 
 // How many pairs a round made, and how many clusters it leaves.
 pub struct Outcome {
@@ -28,6 +29,8 @@ fn try_round(
     from: &[u16],
     to: &[u16],
     width: &[u32],
+    head: &[u16; 513],
+    next: &[u16; 1024],
     order: &[u16],
     g: usize,
     bound: u32,
@@ -36,12 +39,24 @@ fn try_round(
 ) -> Outcome
     requires { ⌜ Ready (graphOf (now costs) (now starts) (now ends) (now widths)) (now row) g ⌝ }
     requires { ⌜ Carries (graphOf (now costs) (now starts) (now ends) (now widths)) (now row) g (now weights) (now from) (now to) (now width) (now order) ⌝ }
-    requires { ⌜ (now id ≡ identity g) × (length (now out) ≡ 512) ⌝ }
+    requires { ⌜ (now id ≡ identity g) × (length (now out) ≡ 512) × Linked (leave (arcs (now id) (now from) (now to))) (length (now from)) (now head) (now next) ⌝ }
     ensures { λ r. ⌜ Round (graphOf (now (costs .entry)) (now (starts .entry)) (now (ends .entry)) (now (widths .entry))) bound (now (row .entry)) (now (out .entry)) (now (out .exit)) (r .pairs) (r .clusters) ⌝ }
     ensures { λ _. ⌜ Renamed (now (row .entry)) (nextRow (now (row .entry)) (roundOf (graphOf (now (costs .entry)) (now (starts .entry)) (now (ends .entry)) (now (widths .entry))) bound (now (row .entry)))) (now (map .exit)) ⌝ }
 {
     let mut mates = [0; 512];
-    let pairs = matching::round(weights, id, from, to, width, order, g, bound, &mut mates);
+    let pairs = matching::round(
+        weights,
+        id,
+        from,
+        to,
+        width,
+        head,
+        next,
+        order,
+        g,
+        bound,
+        &mut mates,
+    );
     let clusters = contraction::next_row(row, &mates, map, out);
     Outcome {
         pairs: pairs,
@@ -86,6 +101,8 @@ fn climb(
     from: &[u16],
     to: &[u16],
     width: &[u32],
+    head: &[u16; 513],
+    next: &[u16; 1024],
     order: &[u16],
     map: &mut [u16; 512],
     ladder: &mut [u16],
@@ -95,7 +112,7 @@ fn climb(
     requires { ⌜ Ready (graphOf (now costs) (now starts) (now ends) (now widths)) (rowAt (graphOf (now costs) (now starts) (now ends) (now widths)) (now ladder) r) g ⌝ }
     requires { ⌜ Carries (graphOf (now costs) (now starts) (now ends) (now widths)) (rowAt (graphOf (now costs) (now starts) (now ends) (now widths)) (now ladder) r) g (now weights) (now from) (now to) (now width) (now order) ⌝ }
     requires { ⌜ now id ≡ identity g ⌝ }
-    requires { ⌜ (r < 8) × (k ≤ 16) ⌝ }
+    requires { ⌜ (r < 8) × (k ≤ 16) × Linked (leave (arcs (now id) (now from) (now to))) (length (now from)) (now head) (now next) ⌝ }
     requires { ⌜ 9 * length (now costs) ≤ length (now ladder) ⌝ }
     ensures { λ x. ⌜ Climbs (graphOf (now (costs .entry)) (now (starts .entry)) (now (ends .entry)) (now (widths .entry))) k bound r (now (ladder .entry)) (now (ladder .exit)) (now (map .exit)) x ⌝ }
 {
@@ -118,6 +135,8 @@ fn climb(
         from,
         to,
         width,
+        head,
+        next,
         order,
         g,
         bound,
@@ -131,7 +150,7 @@ fn climb(
     t.clusters
 }
 
-// The lists, the costs and the order of row r + 1 after those of row r: map gives each of the g clusters its new number, one of h.
+// The lists, the costs, the order and the links of row r + 1 after those of row r: map gives each of the g clusters its new number, one of h.
 fn hand_on(
     id: &[u16],
     map: &[u16; 512],
@@ -146,10 +165,13 @@ fn hand_on(
     sizes: &mut [u16; 9],
     orders: &mut [u16],
     weights: &mut [u32; 512],
+    head: &mut [u16; 513],
+    next: &mut [u16; 1024],
 )
-    requires { ⌜ Maps (now map) g h × (now id ≡ identity 512) × (h ≤ n) ⌝ }
+    requires { ⌜ Maps (now map) g h × (now id ≡ identity 512) × (h ≤ n) × (length (now next) ≡ 1024) ⌝ }
     requires { ⌜ HandsOn n m r g (now froms) (now tos) (now wides) (now sizes) (now orders) (now weights) ⌝ }
     ensures { λ _. ⌜ HandedOn (now (map .entry)) n m r g h (now (froms .entry)) (now (tos .entry)) (now (wides .entry)) (now (sizes .entry)) (now (orders .entry)) (now (weights .entry)) (now (froms .exit)) (now (tos .exit)) (now (wides .exit)) (now (sizes .exit)) (now (orders .exit)) (now (weights .exit)) ⌝ }
+    ensures { λ _. ⌜ LinkedAt m (r + 1) h (now (froms .exit)) (now (tos .exit)) (now (sizes .exit)) (now (head .exit)) (now (next .exit)) ⌝ }
 {
     let size = folds::wide(sizes[r]);
     let a = r * m;
@@ -159,7 +181,11 @@ fn hand_on(
     row_lists::merge(map, g, weights);
     let e = b + count;
     let c = r * n + n;
-    topology::order(&id[..h], &froms[b..e], &tos[b..e], h, &mut orders[c..c + n]);
+    let own = &id[..h];
+    let from = &froms[b..e];
+    let to = &tos[b..e];
+    graph::fill_leaving(own, from, to, head, next);
+    topology::order_by(own, from, to, head, next, h, &mut orders[c..c + n]);
 }
 
 // The round on row r, by what is carried of it.
@@ -178,6 +204,8 @@ fn climb_at(
     sizes: &[u16; 9],
     orders: &[u16],
     weights: &[u32; 512],
+    head: &[u16; 513],
+    next: &[u16; 1024],
     map: &mut [u16; 512],
     r: usize,
     g: usize,
@@ -185,7 +213,7 @@ fn climb_at(
     requires { ⌜ Ready (graphOf (now costs) (now starts) (now ends) (now widths)) (rowAt (graphOf (now costs) (now starts) (now ends) (now widths)) (now ladder) r) g × Sound (graphOf (now costs) (now starts) (now ends) (now widths)) (rowAt (graphOf (now costs) (now starts) (now ends) (now widths)) (now ladder) r) ⌝ }
     requires { ⌜ Carrying (graphOf (now costs) (now starts) (now ends) (now widths)) (now ladder) r g (now froms) (now tos) (now wides) (now sizes) (now orders) (now weights) ⌝ }
     requires { ⌜ Room (graphOf (now costs) (now starts) (now ends) (now widths)) (now ladder) (now froms) (now tos) (now wides) (now sizes) (now orders) ⌝ }
-    requires { ⌜ (r < 8) × (k ≤ 16) × (now id ≡ identity 512) × (g ≤ length (now costs)) ⌝ }
+    requires { ⌜ (r < 8) × (k ≤ 16) × (now id ≡ identity 512) × (g ≤ length (now costs)) × LinkedAt (length (now starts)) r g (now froms) (now tos) (now sizes) (now head) (now next) ⌝ }
     ensures { λ x. ⌜ Climbs (graphOf (now (costs .entry)) (now (starts .entry)) (now (ends .entry)) (now (widths .entry))) k bound r (now (ladder .entry)) (now (ladder .exit)) (now (map .exit)) x ⌝ }
 {
     let n = costs.len();
@@ -206,6 +234,8 @@ fn climb_at(
         &froms[c..d],
         &tos[c..d],
         &wides[c..d],
+        head,
+        next,
         &orders[a..b],
         map,
         ladder,
@@ -231,15 +261,18 @@ fn step(
     sizes: &mut [u16; 9],
     orders: &mut [u16],
     weights: &mut [u32; 512],
+    head: &mut [u16; 513],
+    next: &mut [u16; 1024],
     r: usize,
     g: usize,
 ) -> usize
     requires { ⌜ Ready (graphOf (now costs) (now starts) (now ends) (now widths)) (rowAt (graphOf (now costs) (now starts) (now ends) (now widths)) (now ladder) r) g × Sound (graphOf (now costs) (now starts) (now ends) (now widths)) (rowAt (graphOf (now costs) (now starts) (now ends) (now widths)) (now ladder) r) ⌝ }
     requires { ⌜ Carrying (graphOf (now costs) (now starts) (now ends) (now widths)) (now ladder) r g (now froms) (now tos) (now wides) (now sizes) (now orders) (now weights) ⌝ }
     requires { ⌜ Room (graphOf (now costs) (now starts) (now ends) (now widths)) (now ladder) (now froms) (now tos) (now wides) (now sizes) (now orders) ⌝ }
-    requires { ⌜ (r < 8) × (k ≤ 16) × (now id ≡ identity 512) × (g ≤ length (now costs)) ⌝ }
+    requires { ⌜ (r < 8) × (k ≤ 16) × (now id ≡ identity 512) × (g ≤ length (now costs)) × LinkedAt (length (now starts)) r g (now froms) (now tos) (now sizes) (now head) (now next) ⌝ }
     ensures { λ x. ⌜ Steps (graphOf (now (costs .entry)) (now (starts .entry)) (now (ends .entry)) (now (widths .entry))) k bound r (now (ladder .entry)) (now (ladder .exit)) (now (froms .exit)) (now (tos .exit)) (now (wides .exit)) (now (sizes .exit)) (now (orders .exit)) (now (weights .exit)) x ⌝ }
     ensures { λ _. ⌜ Room (graphOf (now (costs .entry)) (now (starts .entry)) (now (ends .entry)) (now (widths .entry))) (now (ladder .exit)) (now (froms .exit)) (now (tos .exit)) (now (wides .exit)) (now (sizes .exit)) (now (orders .exit)) ⌝ }
+    ensures { λ x. ⌜ ((x ≡ 0 → ⊥) → LinkedAt (length (now (starts .entry))) (r + 1) x (now (froms .exit)) (now (tos .exit)) (now (sizes .exit)) (now (head .exit)) (now (next .exit))) ⌝ }
 {
     let mut map = [0; 512];
     let h = climb_at(
@@ -257,6 +290,8 @@ fn step(
         sizes,
         orders,
         weights,
+        head,
+        next,
         &mut map,
         r,
         g,
@@ -278,6 +313,8 @@ fn step(
         sizes,
         orders,
         weights,
+        head,
+        next,
     );
     h
 }
@@ -296,11 +333,14 @@ fn rise(
     wides: &mut [u32],
     sizes: &mut [u16; 9],
     orders: &mut [u16],
+    head: &mut [u16; 513],
+    next: &mut [u16; 1024],
 ) -> usize
     requires { ⌜ Buildable (graphOf (now costs) (now starts) (now ends) (now widths)) k ⌝ }
     requires { ⌜ Room (graphOf (now costs) (now starts) (now ends) (now widths)) (now ladder) (now froms) (now tos) (now wides) (now sizes) (now orders) ⌝ }
     requires { ⌜ rowAt (graphOf (now costs) (now starts) (now ends) (now widths)) (now ladder) 0 ≡ identity (length (now costs)) ⌝ }
     requires { ⌜ Carried (graphOf (now costs) (now starts) (now ends) (now widths)) (rowAt (graphOf (now costs) (now starts) (now ends) (now widths)) (now ladder)) 0 (now froms) (now tos) (now wides) (now sizes) (now orders) ⌝ }
+    requires { ⌜ LinkedAt (length (now starts)) 0 (length (now costs)) (now froms) (now tos) (now sizes) (now head) (now next) ⌝ }
     ensures { λ x. ⌜ Built (graphOf (now (costs .entry)) (now (starts .entry)) (now (ends .entry)) (now (widths .entry))) k bound (now (ladder .entry)) (now (ladder .exit)) x ⌝ }
     ensures { λ x. ⌜ Carried (graphOf (now (costs .entry)) (now (starts .entry)) (now (ends .entry)) (now (widths .entry))) (rowAt (graphOf (now (costs .entry)) (now (starts .entry)) (now (ends .entry)) (now (widths .entry))) (now (ladder .exit))) x (now (froms .exit)) (now (tos .exit)) (now (wides .exit)) (now (sizes .exit)) (now (orders .exit)) ⌝ }
 {
@@ -326,6 +366,8 @@ fn rise(
             sizes,
             orders,
             &mut weights,
+            head,
+            next,
             r,
             g,
         );
@@ -360,8 +402,12 @@ pub fn build(
     ensures { λ x. ⌜ Carried (graphOf (now (costs .entry)) (now (starts .entry)) (now (ends .entry)) (now (widths .entry))) (rowAt (graphOf (now (costs .entry)) (now (starts .entry)) (now (ends .entry)) (now (widths .entry))) (now (ladder .exit))) x (now (froms .exit)) (now (tos .exit)) (now (wides .exit)) (now (sizes .exit)) (now (orders .exit)) ⌝ }
 {
     let n = costs.len();
+    let mut head = [0u16; 513];
+    let mut next = [0u16; 1024];
     first_row(&mut ladder[0..n]);
-    topology::order(&ladder[0..n], starts, ends, n, orders);
+    let own = &ladder[0..n];
+    graph::fill_leaving(own, starts, ends, &mut head, &mut next);
+    topology::order_by(own, starts, ends, &head, &next, n, orders);
     row_lists::first(starts, ends, widths, froms, tos, wides, sizes);
     rise(
         costs,
@@ -376,5 +422,7 @@ pub fn build(
         wides,
         sizes,
         orders,
+        &mut head,
+        &mut next,
     )
 }

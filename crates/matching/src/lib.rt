@@ -205,6 +205,8 @@ pub fn round(
     starts: &[u16],
     ends: &[u16],
     widths: &[u32],
+    head: &[u16; 513],
+    next: &[u16; 1024],
     order: &[u16],
     g: usize,
     bound: u32,
@@ -212,22 +214,20 @@ pub fn round(
 ) -> usize
     requires { ⌜ Ready (graphOf (take g (now costs)) (now starts) (now ends) (now widths)) (now row) g ⌝ }
     requires { ⌜ Weights g (now costs) × (now row ≡ identity g) × Simple (now row) (now starts) (now ends) (now widths) ⌝ }
+    requires { ⌜ Linked (leave (arcs (now row) (now starts) (now ends))) (length (now starts)) (now head) (now next) ⌝ }
     requires { ⌜ Ordered (arcs (now row) (now starts) (now ends)) g (now order) ⌝ }
     ensures { λ r. ⌜ Matched (graphOf (take g (now (costs .entry))) (now (starts .entry)) (now (ends .entry)) (now (widths .entry))) bound (now (row .entry)) (now (mates .exit)) r ⌝ }
 {
-    let mut head = [0u16; 513];
-    let mut next = [0u16; 1024];
     let mut levels = [0; 512];
-    graph::fill_leaving(row, starts, ends, &mut head, &mut next);
-    levels::sweep(row, starts, ends, &head, &next, order, g, &mut levels);
+    levels::sweep(row, starts, ends, head, next, order, g, &mut levels);
     pairs(
         costs,
         row,
         starts,
         ends,
         widths,
-        &head,
-        &next,
+        head,
+        next,
         order,
         &levels,
         g,

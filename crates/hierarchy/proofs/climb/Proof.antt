@@ -20,7 +20,7 @@ climb-spec =
     (λ c. search needs)
     (λ c. search needs)
     (λ c. let s = c .before .before .before .before .before .before .before .before .before .before .before .before in let h = rows-in (s .args .r) (length (s .args .costs .now)) (length (s .args .ladder .now)) (s .pre .1 .1 .1 .0 .0) (s .pre .1 .1 .1 .1) in search needs)
-    (λ c κs. let s = c .before .before .before .before .before .before .before .before .before .before .before .before .before .before .before in rw (row-handed _ (s .args .k) 0 (s .args .r) _ _ (s .pre .0)) (s .pre .0, (s .pre .1 .0, (s .pre .1 .1 .0, refl))))
+    (λ c κs. let s = c .before .before .before .before .before .before .before .before .before .before .before .before .before .before .before in rw (row-handed _ (s .args .k) 0 (s .args .r) _ _ (s .pre .0)) (s .pre .0, (s .pre .1 .0, (s .pre .1 .1 .0, refl, s .pre .1 .1 .1 .0 .2))))
     (λ c. search needs)
     (λ c. search needs)
     (λ c. let s = c .before .before .before .before .before .before .before .before .before .before .before .before .before .before .before .before .before .before in record { climbed = climbed-poor _ _ _ _ _ _ (s .pre .0) (s .pre .1 .1 .1 .0 .0) (s .pre .1 .1 .1 .0 .1) (s .pre .1 .1 .1 .1) (c .before .before .before .before .before .before .before .if1 .left) (c .before .before .try-round .ensures .0) (c .if2 .taken); renamed = λ n. absurd (n refl) })

@@ -6,7 +6,7 @@ use lib.ListN.{length, take}
 use Rattle.row_lists.proofs.Carrying.{handed}
 use Rattle.hierarchy.proofs.Climbs.{rows-in}
 use Rattle.hierarchy.proofs.Handing.{place-few, id-length, identity-front}
-use Rattle.hierarchy.proofs.Stepping.{size-few, carries-handed, list-fits}
+use Rattle.hierarchy.proofs.Stepping.{size-few, links-handed, carries-handed, list-fits}
 use borrow.Author.Needs.{needs}
 use Rattle.hierarchy.proofs.climb_at.Statement.{statement}
 use Rattle.hierarchy.proofs.climb_at.Tie as tie
@@ -39,6 +39,6 @@ climb-at-spec =
     (λ c. search needs)
     (λ c. search needs)
     (λ c. let s = c .before .before .before .before .before .before .before .before .before .before .before .before .before .before .before .before in let p = s .pre in let q = rows-in (s .args .r) (length (s .args .costs .now)) (length (s .args .orders .now)) (p .1 .1 .1 .0) (p .1 .1 .0 .order-room) in search needs)
-    (λ c κs. let s = c .before .before .before .before .before .before .before .before .before .before .before .before .before .before .before .before .before .before .before in let p = s .pre in let room = rows-in (s .args .r) (length (s .args .costs .now)) (length (s .args .orders .now)) (p .1 .1 .1 .0) (p .1 .1 .0 .order-room) in (p .0 .0, (carries-handed (p .0 .0) (p .0 .1) (p .1 .0) (p .1 .1 .1 .3) (c .before .before .before .before .before .before .before .wide .ensures) (omega (arith, room)), (ap (take (s .args .g)) (p .1 .1 .1 .2) ∙ identity-front _ 512 (p .0 .0 .small), ((p .1 .1 .1 .0, p .1 .1 .1 .1), p .1 .1 .0 .rows)))))
+    (λ c κs. let s = c .before .before .before .before .before .before .before .before .before .before .before .before .before .before .before .before .before .before .before in let p = s .pre in let room = rows-in (s .args .r) (length (s .args .costs .now)) (length (s .args .orders .now)) (p .1 .1 .1 .0) (p .1 .1 .0 .order-room) in (p .0 .0, (carries-handed (p .0 .0) (p .0 .1) (p .1 .0) (p .1 .1 .1 .3) (c .before .before .before .before .before .before .before .wide .ensures) (omega (arith, room)), (ap (take (s .args .g)) (p .1 .1 .1 .2) ∙ identity-front _ 512 (p .0 .0 .small), ((p .1 .1 .1 .0, p .1 .1 .1 .1, links-handed (p .1 .1 .1 .2) (p .0 .0 .small) (c .before .before .before .before .before .before .before .wide .ensures) (p .1 .1 .1 .4)), p .1 .1 .0 .rows)))))
     (λ c. search needs)
     (λ c. search needs))
