@@ -5,11 +5,11 @@ use mathlib.Core.List.{List}
 use native.Mathlib.Omega.{arith}
 use lib.ListN.{length, getD, set, take, drop, length-set}
 use lib.Seq.{getD-set-same, length-take-le, take-all}
-use Rattle.folds.specs.Fold.{sumTo, over, put, part}
+use Rattle.folds.specs.Fold.{sumTo, put, part}
 use Rattle.folds.proofs.Sums.{sumTo-le}
 use Rattle.folds.proofs.Lists.{getD-past}
-use Rattle.folds.proofs.Slices.{length-put, take-over, length-over}
-use Rattle.folds.proofs.Parts.{part-put}
+use Rattle.folds.proofs.Slices.{length-put}
+use Rattle.folds.proofs.Parts.{part-put, take-put}
 use Rattle.graph.specs.Graph.{Graph, vertices, edges, identity, arcs, seen, partCost}
 use Rattle.graph.specs.Rows.{clusters}
 use Rattle.graph.specs.Coarse.{Coarse, Stored}
@@ -140,25 +140,26 @@ module _ (G : Graph) (k : ℕ) (B : Buildable G k) where
   unfolding part
   first-handed ladder e = let z : 0 * n ≡ 0 = omega arith in let y : n - 0 ≡ n = omega arith in rw y (rw z at e)
 
-  first-whole : {row : List ℕ} → row ≡ identity n → length (orderOf (arcs row (G .starts) (G .ends)) n) ≡ n
-  first-whole e = rw e (order-all (seen G (identity n)) n (row-inside (B .proper .formed) (identity-row G)) (B .acyclic))
-
   pub first-joins : {row : List ℕ} → row ≡ identity n → sumTo m (λ j. getD (G .widths) j 0) ≤ 67107840 → Joins row (G .starts) (G .ends)
   first-joins e narrow = rw e (coarse-joins (own-lists narrow) (B .proper .few))
 
-  pub first-order : (orders : List ℕ) {row orders′ : List ℕ} → row ≡ identity n → orders′ ≡ over (orderOf (arcs row (G .starts) (G .ends)) n) orders
-      → take n orders′ ≡ orderOf (arcs (identity n) (G .starts) (G .ends)) n
-  first-order orders {row} e o = rw o (take-over (orderOf (arcs row (G .starts) (G .ends)) n) orders n (first-whole e) ∙ rw e)
+  -- the order of the vertices, copied to the front of the orders
+  module _ (orders order : List ℕ) {orders′ : List ℕ} (room : 9 * n ≤ length orders) (is : take n order ≡ orderOf (arcs (identity n) (G .starts) (G .ends)) n) (o : orders′ ≡ put orders 0 (take n order)) where
+    whole : length (take n order) ≡ n
+    whole = ap length is ∙ order-all (seen G (identity n)) n (row-inside (B .proper .formed) (identity-row G)) (B .acyclic)
 
-  -- the orders are as long as they were
-  pub ordered-room : {ladder froms tos widths sizes orders orders′ row : List ℕ} → row ≡ identity n → orders′ ≡ over (orderOf (arcs row (G .starts) (G .ends)) n) orders
-      → Room G ladder froms tos widths sizes orders → Room G ladder froms tos widths sizes orders′
-  ordered-room {orders = orders} {row = row} e o M =
-      record {
-        rows = M .rows;
-        from-room = M .from-room;
-        to-room = M .to-room;
-        width-room = M .width-room;
-        nine = M .nine;
-        order-room = rw (o, length-over (orderOf (arcs row (G .starts) (G .ends)) n) orders (omega (arith, first-whole e, M .order-room))) (M .order-room);
-      }
+    pub first-order : take n orders′ ≡ orderOf (arcs (identity n) (G .starts) (G .ends)) n
+    first-order =
+        let z : 0 + length (take n order) ≡ n = omega (arith, whole) in
+        rw o (ap (λ (i : ℕ). take i (put orders 0 (take n order))) (sym z) ∙ take-put orders (take n order) 0 (omega (arith, whole)) ∙ is)
+
+    pub ordered-room : {ladder froms tos widths sizes : List ℕ} → Room G ladder froms tos widths sizes orders → Room G ladder froms tos widths sizes orders′
+    ordered-room M =
+        record {
+          rows = M .rows;
+          from-room = M .from-room;
+          to-room = M .to-room;
+          width-room = M .width-room;
+          nine = M .nine;
+          order-room = rw (o, length-put orders 0 (take n order) (omega (arith, whole))) (M .order-room);
+        }

@@ -7,6 +7,7 @@ ghost use Rattle.contraction.proofs.Rounds.{Sound};
 ghost use Rattle.matching.specs.Choice.{roundOf};
 ghost use Rattle.graph.specs.Graph.{graphOf, identity, arcs};
 ghost use Rattle.graph.specs.Links.{Linked, leave};
+ghost use Rattle.topology.specs.Order.{orderOf};
 ghost use Rattle.matching.specs.Held.{Ready};
 ghost use Rattle.row_lists.specs.Carry.{Maps};
 ghost use Rattle.hierarchy.specs.Built.{Round, Carries, rowAt, Climbs, Carried, Carrying, LinkedAt, Room, Steps, HandsOn, HandedOn, Buildable, Built};
@@ -380,7 +381,8 @@ fn rise(
     r
 }
 
-// Builds the hierarchy: rows 0 to the rounds kept, whose number it answers, with the lists and the order of each.
+// Builds the hierarchy, by the order of the vertices: rows 0 to the rounds kept, whose number it answers, with the lists and
+// the order of each.
 // Entries past those rows are left alone.
 pub fn build(
     costs: &[u16],
@@ -389,6 +391,7 @@ pub fn build(
     widths: &[u16],
     k: usize,
     bound: u32,
+    order: &[u16; 512],
     ladder: &mut [u16],
     froms: &mut [u16],
     tos: &mut [u16],
@@ -398,6 +401,8 @@ pub fn build(
 ) -> usize
     requires { ⌜ Buildable (graphOf (now costs) (now starts) (now ends) (now widths)) k ⌝ }
     requires { ⌜ Room (graphOf (now costs) (now starts) (now ends) (now widths)) (now ladder) (now froms) (now tos) (now wides) (now sizes) (now orders) ⌝ }
+    requires { ⌜ take (length (now costs)) (now order) ≡ orderOf (arcs (identity (length (now costs))) (now starts) (now ends)) (length (now costs)) ⌝ }
+    requires { ⌜ length (now order) ≡ 512 ⌝ }
     ensures { λ x. ⌜ Built (graphOf (now (costs .entry)) (now (starts .entry)) (now (ends .entry)) (now (widths .entry))) k bound (now (ladder .entry)) (now (ladder .exit)) x ⌝ }
     ensures { λ x. ⌜ Carried (graphOf (now (costs .entry)) (now (starts .entry)) (now (ends .entry)) (now (widths .entry))) (rowAt (graphOf (now (costs .entry)) (now (starts .entry)) (now (ends .entry)) (now (widths .entry))) (now (ladder .exit))) x (now (froms .exit)) (now (tos .exit)) (now (wides .exit)) (now (sizes .exit)) (now (orders .exit)) ⌝ }
 {
@@ -407,7 +412,7 @@ pub fn build(
     first_row(&mut ladder[0..n]);
     let own = &ladder[0..n];
     graph::fill_leaving(own, starts, ends, &mut head, &mut next);
-    topology::order_by(own, starts, ends, &head, &next, n, orders);
+    row_lists::copy(order, n, orders, 0);
     row_lists::first(starts, ends, widths, froms, tos, wides, sizes);
     rise(
         costs,

@@ -70,7 +70,8 @@ fn check_cycles(starts: &[u16], ends: &[u16], parts: &[u16], k: usize) -> Verdic
     requires { ⌜ k ≤ 16 ⌝ }
     ensures { λ r. ⌜ r ≡ cyclesFrom (now (starts .entry)) (now (ends .entry)) k (now (parts .entry)) ⌝ }
 {
-    let u = topology::lowest_on_cycle(parts, starts, ends, k);
+    let mut taken = [0u16; 512];
+    let u = topology::lowest_on_cycle(parts, starts, ends, k, &mut taken);
     if u < k {
         return Verdict::Refused(Cause::PartCycle, u);
     }
@@ -150,7 +151,8 @@ pub fn inspect(
 {
     let n = costs.len();
     let room = enough(table.len(), n, order.len(), k);
-    let checked = validity::check(512, costs, starts, ends, widths, k, bound, room);
+    let mut taken = [0u16; 512];
+    let checked = validity::check(512, costs, starts, ends, widths, k, bound, room, &mut taken);
     if let Verdict::Refused(cause, place) = checked {
         return Inspected::Failed(cause, place);
     }

@@ -13,11 +13,15 @@ use borrow.Author.Tests.{leb-true, le-leb}
 use Rattle.folds.proofs.Cases.{both, same-test}
 use Rattle.folds.specs.Fold.{over}
 use Rattle.folds.proofs.Slices.{take-over, length-over}
-use Rattle.graph.specs.Graph.{Graph, vertices, edges}
+use Rattle.graph.specs.Graph.{Graph, vertices, edges, identity, seen}
+use Rattle.graph.proofs.Edges.{row-inside, identity-row}
+use Rattle.topology.specs.Order.{orderOf}
+use Rattle.topology.proofs.Orders.{order-all}
 use Rattle.graph.specs.Coarse.{Stored}
 use Rattle.graph.specs.Rows.{Hierarchy}
 use Rattle.validity.specs.Cause.{refusal}
 use Rattle.validity.specs.Check.{checked, Valid}
+use Rattle.validity.specs.Fit.{OrderLeft}
 use Rattle.validity.specs.Sound.{Sound}
 use Rattle.validity.specs.declared.Cause.{Cause}
 use Rattle.validity.specs.declared.Verdict.{Verdict}
@@ -183,6 +187,14 @@ module _ (G : Graph) (k bound : ℕ) (table ladder : List ℕ) (room : Bool) (v 
 
     pub sound : Sound G k bound
     sound = valid-sound G k bound (valid .0)
+
+    -- the order that the checks left
+    pub ordered : {order order′ : List ℕ} → length order ≡ 512 → OrderLeft v (vertices G) (G .starts) (G .ends) order order′
+        → (take (vertices G) order′ ≡ orderOf (seen G (identity (vertices G))) (vertices G)) × (length order′ ≡ 512)
+    ordered {order} t O =
+        let o = orderOf (seen G (identity (vertices G))) (vertices G) in
+        let w : length o ≡ vertices G = order-all (seen G (identity (vertices G))) (vertices G) (row-inside (sound .proper .formed) (identity-row G)) (sound .acyclic) in
+        rw (O .order passed) (take-over o order (vertices G) w, length-over o order (omega (arith, sound .proper .few)) ∙ t)
 
     pub rooms : (vertices G ≤ length table) × (9 * vertices G ≤ length ladder)
     rooms =

@@ -1,10 +1,11 @@
 // The public split: checks, then the three phases of the paper.
 ghost use mathlib.Core.Path.{_≡_};
 ghost use Prim.Native.Nat.{_*_, _≤_};
-ghost use lib.ListN.{length};
+ghost use lib.ListN.{length, take};
 ghost use lib.Dec.{leb};
 ghost use mathlib.Core.Bool.{_&&_};
-ghost use Rattle.graph.specs.Graph.{graphOf};
+ghost use Rattle.graph.specs.Graph.{graphOf, identity, arcs};
+ghost use Rattle.topology.specs.Order.{orderOf};
 ghost use Rattle.validity.specs.Sound.{Sound};
 ghost use Rattle.partition.specs.Split.{answerOf, splitOf, tableAfter, ladderLeft, Works};
 use initial::Initial;
@@ -41,6 +42,7 @@ fn phases(
     widths: &[u16],
     k: usize,
     bound: u32,
+    order: &[u16; 512],
     table: &mut [u16],
     ladder: &mut [u16],
     froms: &mut [u16],
@@ -51,6 +53,7 @@ fn phases(
     requires { ⌜ Sound (graphOf (now costs) (now starts) (now ends) (now widths)) k bound ⌝ }
     requires { ⌜ (length (now costs) ≤ length (now table)) × (9 * length (now costs) ≤ length (now ladder)) ⌝ }
     requires { ⌜ (9 * length (now starts) ≤ length (now froms)) × (9 * length (now starts) ≤ length (now tos)) × (9 * length (now starts) ≤ length (now wides)) × (9 * length (now costs) ≤ length (now orders)) ⌝ }
+    requires { ⌜ (take (length (now costs)) (now order) ≡ orderOf (arcs (identity (length (now costs))) (now starts) (now ends)) (length (now costs))) × (length (now order) ≡ 512) ⌝ }
     ensures { λ r. ⌜ Works (graphOf (now (costs .entry)) (now (starts .entry)) (now (ends .entry)) (now (widths .entry))) k bound (now (table .entry)) (now (ladder .entry)) (now (table .exit)) (now (ladder .exit)) r ⌝ }
 {
     let mut sizes = [0; 9];
@@ -61,6 +64,7 @@ fn phases(
         widths,
         k,
         bound,
+        order,
         ladder,
         froms,
         tos,
@@ -109,11 +113,13 @@ fn partition(
     widths: &[u16],
     k: usize,
     bound: u32,
+    order: &[u16; 512],
     table: &mut [u16],
     ladder: &mut [u16],
 ) -> Inner
     requires { ⌜ Sound (graphOf (now costs) (now starts) (now ends) (now widths)) k bound ⌝ }
     requires { ⌜ (length (now costs) ≤ length (now table)) × (9 * length (now costs) ≤ length (now ladder)) ⌝ }
+    requires { ⌜ (take (length (now costs)) (now order) ≡ orderOf (arcs (identity (length (now costs))) (now starts) (now ends)) (length (now costs))) × (length (now order) ≡ 512) ⌝ }
     ensures { λ r. ⌜ Works (graphOf (now (costs .entry)) (now (starts .entry)) (now (ends .entry)) (now (widths .entry))) k bound (now (table .entry)) (now (ladder .entry)) (now (table .exit)) (now (ladder .exit)) r ⌝ }
 {
     let mut froms = [0; 9216];
@@ -127,6 +133,7 @@ fn partition(
         widths,
         k,
         bound,
+        order,
         table,
         ladder,
         &mut froms,
@@ -152,11 +159,12 @@ pub fn split(
     ensures { λ _. ⌜ now (ladder .exit) ≡ ladderLeft (graphOf (now (costs .entry)) (now (starts .entry)) (now (ends .entry)) (now (widths .entry))) k bound (now (table .entry)) (now (ladder .entry)) ⌝ }
 {
     let room = enough(costs.len(), table.len(), ladder.len());
-    let checked = validity::check(512, costs, starts, ends, widths, k, bound, room);
+    let mut order = [0u16; 512];
+    let checked = validity::check(512, costs, starts, ends, widths, k, bound, room, &mut order);
     if let Verdict::Refused(cause, place) = checked {
         return Partitioned::Failed(cause, place);
     }
-    match partition(costs, starts, ends, widths, k, bound, table, ladder) {
+    match partition(costs, starts, ends, widths, k, bound, &order, table, ladder) {
         Inner::Found(cut, rounds, rung, moves) => Partitioned::Parted(cut, rounds, rung, moves),
         Inner::Nothing => Partitioned::Failed(Cause::Uncut, 0),
     }

@@ -287,14 +287,21 @@ fn search_cycle(row: &[u16], starts: &[u16], ends: &[u16], g: usize) -> usize
 }
 
 // The lowest of g clusters that lies on a cycle, or g: the search runs only where the order does not take all.
-pub fn lowest_on_cycle(row: &[u16], starts: &[u16], ends: &[u16], g: usize) -> usize
+// The order is left in the front of `taken`.
+pub fn lowest_on_cycle(
+    row: &[u16],
+    starts: &[u16],
+    ends: &[u16],
+    g: usize,
+    taken: &mut [u16; 512],
+) -> usize
     requires { ⌜ Joins (now row) (now starts) (now ends) ⌝ }
     requires { ⌜ Inside (arcs (now row) (now starts) (now ends)) g ⌝ }
-    requires { ⌜ g ≤ 512 ⌝ }
+    requires { ⌜ (g ≤ 512) × (length (now taken) ≡ 512) ⌝ }
     ensures { λ r. ⌜ r ≡ lowestOnCycle (arcs (now (row .entry)) (now (starts .entry)) (now (ends .entry))) g ⌝ }
+    ensures { λ _. ⌜ now (taken .exit) ≡ over (orderOf (arcs (now (row .entry)) (now (starts .entry)) (now (ends .entry))) g) (now (taken .entry)) ⌝ }
 {
-    let mut taken = [0u16; 512];
-    let count = order(row, starts, ends, g, &mut taken);
+    let count = order(row, starts, ends, g, taken);
     if count == g {
         return g;
     }

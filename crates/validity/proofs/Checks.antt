@@ -17,7 +17,8 @@ use Rattle.graph.specs.Graph.{identity, via, arcs, Inside}
 use Rattle.graph.specs.Links.{Joins}
 use Rattle.graph.proofs.Edges.{identity-at}
 use Rattle.topology.specs.Reach.{lowestOnCycle}
-use Rattle.validity.specs.Fit.{Fits}
+use Rattle.topology.specs.Order.{orderOf}
+use Rattle.validity.specs.Fit.{Fits, OrderLeft}
 use Rattle.validity.specs.Check.{refuseAt, badVertices, badEdges, badEnds}
 use Rattle.validity.specs.declared.Cause.{Cause}
 use Rattle.validity.specs.declared.Verdict.{Verdict}
@@ -126,3 +127,10 @@ identity-part n row l e = rw (sub-zero, e) (identity-front n l)
 pub identity-room : (n : ℕ) (row l : List ℕ) → row ≡ over (identity n) l → n ≤ length row
 unfolding over identity
 identity-room n row l e = rw (e, length-append, length-listTo) (omega arith)
+
+-- a refusal leaves no order
+pub refused-order : {cause : Cause} {place n : ℕ} {starts ends old new : List ℕ} → OrderLeft (Refused cause place) n starts ends old new
+refused-order = record { order = λ e. let z : _≡_ {A = ℕ} 0 1 = cc in absurd (omega arith) }
+
+pub row-order : {r : Verdict} {n : ℕ} (row : List ℕ) {starts ends old new : List ℕ} → row ≡ identity n → new ≡ over (orderOf (arcs row starts ends) n) old → OrderLeft r n starts ends old new
+row-order row e o = record { order = λ _. rw e at o }

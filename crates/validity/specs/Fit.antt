@@ -3,7 +3,11 @@ use Prim.Native.Nat.{ℕ, _≤_, _<_}
 use mathlib.Core.Path.{_≡_}
 use mathlib.Core.List.{List}
 use lib.ListN.{length, getD}
-use Rattle.graph.specs.Graph.{identity}
+use Rattle.folds.specs.Fold.{over}
+use Rattle.graph.specs.Graph.{identity, arcs}
+use Rattle.topology.specs.Order.{orderOf}
+use Rattle.validity.specs.declared.Verdict.{Verdict}
+use Rattle.validity.specs.declared.Verdict.the-variants.{Passed}
 
 -- row is that of the vertices themselves, at most 512, and each of at most 1024 edges has its two ends among them
 pub record Fits (row starts ends : List ℕ) : Type 0 where
@@ -13,3 +17,7 @@ pub record Fits (row starts ends : List ℕ) : Type 0 where
   pub same : length ends ≡ length starts
   pub start-in : (j : ℕ) → j < length starts → getD starts j 0 < length row
   pub end-in : (j : ℕ) → j < length starts → getD ends j 0 < length row
+
+-- where the checks pass, the topological order of the n vertices stands in the front of the list
+pub record OrderLeft (r : Verdict) (n : ℕ) (starts ends old new : List ℕ) : Type 0 where
+  pub order : r ≡ Passed → new ≡ over (orderOf (arcs (identity n) starts ends) n) old

@@ -8,7 +8,7 @@ ghost use Rattle.graph.specs.Graph.{graphOf, identity, via};
 ghost use Rattle.graph.specs.Links.{Linked};
 ghost use Rattle.validity.specs.Cause.{numberOf};
 ghost use Rattle.validity.specs.Repeat.{Marked, tried};
-ghost use Rattle.validity.specs.Fit.{Fits};
+ghost use Rattle.validity.specs.Fit.{Fits, OrderLeft};
 ghost use Rattle.validity.specs.Check.{badVertices, badParts, badEdges, badCost, badEnds, repeats, cyclesFrom, repeatsFrom, endsFrom, costsFrom, checked};
 
 // In the order of document 01's numbers.
@@ -243,36 +243,48 @@ pub fn find_repeat(row: &[u16], starts: &[u16], ends: &[u16]) -> Repeated
 }
 
 // Checks 7 and 8, on the vertices' own row.
-fn check_row(row: &[u16], starts: &[u16], ends: &[u16]) -> Verdict
+fn check_row(row: &[u16], starts: &[u16], ends: &[u16], order: &mut [u16; 512]) -> Verdict
     requires { ⌜ Fits (now row) (now starts) (now ends) ⌝ }
+    requires { ⌜ length (now order) ≡ 512 ⌝ }
     ensures { λ r. ⌜ r ≡ repeatsFrom (length (now (row .entry))) (now (starts .entry)) (now (ends .entry)) ⌝ }
+    ensures { λ r. ⌜ OrderLeft r (length (now (row .entry))) (now (starts .entry)) (now (ends .entry)) (now (order .entry)) (now (order .exit)) ⌝ }
 {
     let found = find_repeat(row, starts, ends);
     let j = found.place;
     if j < starts.len() {
         return Verdict::Refused(Cause::Repeat, j);
     }
-    let v = topology::lowest_on_cycle(row, starts, ends, row.len());
+    let v = topology::lowest_on_cycle(row, starts, ends, row.len(), order);
     if v < row.len() {
         return Verdict::Refused(Cause::Cycle, v);
     }
     Verdict::Passed
 }
 
-fn check_repeats(n: usize, starts: &[u16], ends: &[u16]) -> Verdict
+fn check_repeats(n: usize, starts: &[u16], ends: &[u16], order: &mut [u16; 512]) -> Verdict
     requires { ⌜ Fits (identity n) (now starts) (now ends) ⌝ }
+    requires { ⌜ length (now order) ≡ 512 ⌝ }
     ensures { λ r. ⌜ r ≡ repeatsFrom n (now (starts .entry)) (now (ends .entry)) ⌝ }
+    ensures { λ r. ⌜ OrderLeft r n (now (starts .entry)) (now (ends .entry)) (now (order .entry)) (now (order .exit)) ⌝ }
 {
     let mut row = [0u16; 512];
     fill_identity(&mut row, n);
-    check_row(&row[0..n], starts, ends)
+    check_row(&row[0..n], starts, ends, order)
 }
 
 // Checks 5 to 8.
-fn check_costs(costs: &[u16], starts: &[u16], ends: &[u16], widths: &[u16], bound: u32) -> Verdict
+fn check_costs(
+    costs: &[u16],
+    starts: &[u16],
+    ends: &[u16],
+    widths: &[u16],
+    bound: u32,
+    order: &mut [u16; 512],
+) -> Verdict
     requires { ⌜ (length (now costs) ≤ 512) × (length (now starts) ≤ 1024) ⌝ }
-    requires { ⌜ (length (now ends) ≡ length (now starts)) × (length (now widths) ≡ length (now starts)) ⌝ }
+    requires { ⌜ (length (now ends) ≡ length (now starts)) × (length (now widths) ≡ length (now starts)) × (length (now order) ≡ 512) ⌝ }
     ensures { λ r. ⌜ r ≡ costsFrom (graphOf (now (costs .entry)) (now (starts .entry)) (now (ends .entry)) (now (widths .entry))) bound ⌝ }
+    ensures { λ r. ⌜ OrderLeft r (length (now (costs .entry))) (now (starts .entry)) (now (ends .entry)) (now (order .entry)) (now (order .exit)) ⌝ }
 {
     let v = bad_cost(costs, bound);
     if v < costs.len() {
@@ -282,10 +294,11 @@ fn check_costs(costs: &[u16], starts: &[u16], ends: &[u16], widths: &[u16], boun
     if j < starts.len() {
         return Verdict::Refused(Cause::Ends, j);
     }
-    check_repeats(costs.len(), starts, ends)
+    check_repeats(costs.len(), starts, ends, order)
 }
 
-// Checks 1 to 8: at most `most` vertices; `room` is the caller's verdict of check 4.
+// Checks 1 to 8: at most `most` vertices; `room` is the caller's verdict of check 4. Where they pass, the topological order
+// of the vertices is left in the front of `order`.
 pub fn check(
     most: usize,
     costs: &[u16],
@@ -295,9 +308,11 @@ pub fn check(
     k: usize,
     bound: u32,
     room: bool,
+    order: &mut [u16; 512],
 ) -> Verdict
-    requires { ⌜ most ≤ 512 ⌝ }
+    requires { ⌜ (most ≤ 512) × (length (now order) ≡ 512) ⌝ }
     ensures { λ r. ⌜ r ≡ checked most (graphOf (now (costs .entry)) (now (starts .entry)) (now (ends .entry)) (now (widths .entry))) k bound room ⌝ }
+    ensures { λ r. ⌜ OrderLeft r (length (now (costs .entry))) (now (starts .entry)) (now (ends .entry)) (now (order .entry)) (now (order .exit)) ⌝ }
 {
     if bad_vertices(most, costs.len()) {
         return Verdict::Refused(Cause::Vertices, 0);
@@ -311,5 +326,5 @@ pub fn check(
     if !room {
         return Verdict::Refused(Cause::Room, 0);
     }
-    check_costs(costs, starts, ends, widths, bound)
+    check_costs(costs, starts, ends, widths, bound, order)
 }

@@ -11,7 +11,7 @@ partition-spec =
     (λ c. search needs)
     (λ c. search needs)
     (λ c. search needs)
-    (λ c κs. let p = c .before .before .before .before .before .before .before .before .before .before .before .before .pre in (p .0, (p .1, (omega (arith, p .0 .proper .many), omega (arith, p .0 .proper .many), omega (arith, p .0 .proper .many), omega (arith, p .0 .proper .few)))))
+    (λ c κs. let p = c .before .before .before .before .before .before .before .before .before .before .before .before .pre in (p .0, (p .1 .0, ((omega (arith, p .0 .proper .many), omega (arith, p .0 .proper .many), omega (arith, p .0 .proper .many), omega (arith, p .0 .proper .few)), p .1 .1))))
     (λ c. search needs)
     (λ c. search needs)
     (λ c. search needs))

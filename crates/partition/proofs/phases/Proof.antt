@@ -9,7 +9,7 @@ pub phases-spec : {M : Type 1} → statement M
 phases-spec =
     tie.close
     (tie.spec
-    (λ c κs. let p = c .before .before .before .before .before .before .before .before .before .before .before .before .before .before .before .before .pre in (sound-builds (p .0), record { rows = p .1 .0 .1; from-room = p .1 .1 .0; to-room = p .1 .1 .1; width-room = p .1 .1 .2; nine = refl; order-room = p .1 .1 .3 }))
+    (λ c κs. let p = c .before .before .before .before .before .before .before .before .before .before .before .before .before .before .before .before .pre in (sound-builds (p .0), (record { rows = p .1 .0 .1; from-room = p .1 .1 .0 .0; to-room = p .1 .1 .0 .1; width-room = p .1 .1 .0 .2; nine = refl; order-room = p .1 .1 .0 .3 }, p .1 .1 .1)))
     (λ c κs. let s = c .before .before .before .before .before .before .before .before .before .before .before .before .before .before .before .before .before .before .before .before .before .before .before .before .before .before .before .before .before .before in let p = s .pre in let b = c .before .before .before .before .before .before .before .before .before .before .before .before .before .build .ensures in (p .0 .proper, (choose-hierarchy _ _ _ (p .0) (s .args .table .now) _ _ _ (b .0) (p .1 .0 .0) (p .1 .0 .1), (choose-orders _ _ _ (p .0) (s .args .table .now) _ _ _ (b .0) (p .1 .0 .0) (p .1 .0 .1) (b .1), choose-lent _ _ _ (p .0) (s .args .table .now) _ _ _ (b .0) (p .1 .0 .0) (p .1 .0 .1)))))
     (λ c. search needs)
     (λ c. search needs)

@@ -1,3 +1,5 @@
+-- all are taken where there is no cycle; else each is tried
+use native.Mathlib.Omega.{arith}
 use Rattle.topology.proofs.Reaches.{all-taken}
 use borrow.Author.Needs.{needs}
 use Rattle.topology.proofs.lowest_on_cycle.Statement.{statement}
@@ -7,8 +9,7 @@ pub lowest-on-cycle-spec : {M : Type 1} → statement M
 lowest-on-cycle-spec =
     tie.close
     (tie.spec
-    (λ c. search needs)
-    (λ c κs. let p = c .before .before .before .before .pre in (p .0, (p .1 .1, p .1 .1)))
-    (λ c. let p = c .before .before .before .before .before .before .before .pre in all-taken _ _ (p .1 .0) (c .before .before .order .ensures .0) (c .if1 .taken))
-    (λ c κs. let p = c .before .before .before .before .before .before .before .pre in (p .0, (p .1 .0, p .1 .1)))
+    (λ c κs. let p = c .before .before .before .before .pre in (p .0, (p .1 .1 .0, omega (arith, p .1 .1 .0, p .1 .1 .1))))
+    (λ c. let p = c .before .before .before .before .before .before .pre in (all-taken _ _ (p .1 .0) (c .before .order .ensures .0) (c .if1 .taken), c .before .order .ensures .1))
+    (λ c κs. search needs)
     (λ c. search needs))

@@ -1,6 +1,6 @@
 -- Each check refuses, or hands on to the next; checks 1 to 3 passed leave the sizes that the rest asks for.
 use Rattle.validity.specs.Check.{checked}
-use Rattle.validity.proofs.Checks.{sizes-fit}
+use Rattle.validity.proofs.Checks.{sizes-fit, refused-order}
 use Rattle.folds.proofs.Cases.{cases, told}
 use borrow.Author.Needs.{needs}
 use Rattle.validity.proofs.check.Statement.{statement}
@@ -12,11 +12,11 @@ check-spec =
     tie.close
     (tie.spec
     (λ c κs. search needs)
-    (λ c. search (cases, told))
+    (λ c. (search (cases, told), refused-order))
     (λ c κs. search needs)
-    (λ c. search (cases, told))
+    (λ c. (search (cases, told), refused-order))
     (λ c κs. search needs)
-    (λ c. search (cases, told))
-    (λ c. search (cases, told))
-    (λ c κs. sizes-fit _ _ _ _ _ (c .before .before .before .before .before .before .before .before .before .before .before .pre) (told _ _ _ (c .before .before .before .before .before .before .bad-vertices .ensures) (c .before .before .before .before .before .if1 .left)) (told _ _ _ (c .before .before .bad-edges .ensures) (c .before .if3 .left)))
-    (λ c. search (cases, told)))
+    (λ c. (search (cases, told), refused-order))
+    (λ c. (search (cases, told), refused-order))
+    (λ c κs. let p = c .before .before .before .before .before .before .before .before .before .before .before .before .pre in let z = sizes-fit _ _ _ _ _ (p .0) (told _ _ _ (c .before .before .before .before .before .before .before .bad-vertices .ensures) (c .before .before .before .before .before .before .if1 .left)) (told _ _ _ (c .before .before .before .bad-edges .ensures) (c .before .before .if3 .left)) in (z .0, (z .1 .0, z .1 .1, p .1)))
+    (λ c. (search (cases, told), c .check-costs .ensures .1)))
