@@ -24,7 +24,7 @@ use Rattle.matching.specs.Choice.{roundOf}
 use Rattle.matching.specs.Held.{Ready, Matched}
 use Rattle.matching.proofs.Choices.{round-keeps}
 use Rattle.hierarchy.specs.Climb.{large, poor, kept}
-use Rattle.hierarchy.specs.Built.{Round, rowAt, Climbed}
+use Rattle.hierarchy.specs.Built.{rowAt, Climbed}
 
 -- a round's mates, and the row they give
 module _ {G : Graph} {row : List ℕ} {g : ℕ} (bound : ℕ) (R : Ready G row g) where
@@ -43,10 +43,9 @@ module _ {G : Graph} {row : List ℕ} {g : ℕ} (bound : ℕ) (R : Ready G row g
   pub ready-short : Short row
   ready-short = record { few = omega (arith, R .row-of .whole, R .proper .few); low = λ v l. omega (arith, R .row-of .below v (omega (arith, R .row-of .whole)), R .small) }
 
-  pub tried-round : {mates out out′ : List ℕ} {r c : ℕ} → Matched G bound row mates r → Joined row (mateIn mates) out out′ c → Round G bound row out out′ r c
-  tried-round {mates} {out} {out′} {r} {c} M J =
-      let J′ = joined-mates (row-inside (R .proper .formed) row-own) small keeps (rw (M .mates-are) at J) in
-      record { pairs-are = M .counts; few = M .few; left = J′ .count-is; row-is = J′ .row-is }
+  -- the row that joining the mates leaves is the next row
+  pub tried-joined : {mates out out′ : List ℕ} {r c : ℕ} → Matched G bound row mates r → Joined row (mateIn mates) out out′ c → Joined row (mateOf (roundOf G bound row)) out out′ c
+  tried-joined M J = joined-mates (row-inside (R .proper .formed) row-own) small keeps (rw (M .mates-are) at J)
 
   -- the new numbers are those of the next row
   pub tried-renamed : {mates out out′ map : List ℕ} {r c : ℕ} → Matched G bound row mates r → Joined row (mateIn mates) out out′ c → Renamed row (joinedRow row (mateIn mates)) map
@@ -55,7 +54,7 @@ module _ {G : Graph} {row : List ℕ} {g : ℕ} (bound : ℕ) (R : Ready G row g
       let m = roundOf G bound row in
       let e : joinedRow row (mateIn mates) ≡ nextRow row m =
       sym (take-over (joinedRow row (mateIn mates)) out (length row) (length-next row (mateIn mates)))
-      ∙ ap (take (length row)) (sym (J .row-is) ∙ tried-round M J .row-is)
+      ∙ ap (take (length row)) (sym (J .row-is) ∙ tried-joined M J .row-is)
       ∙ take-over (nextRow row m) out (length row) (length-next row (mateOf m)) in
       record { tall = N .tall; is = λ v l. N .is v l ∙ ap (λ (l : List ℕ). getD l v 0) e }
 
@@ -94,13 +93,13 @@ module _ (G : Graph) (k bound r g : ℕ) (ladder : List ℕ) (R : Ready G (rowAt
   unfolding part
   row-handed = let e : r * n + n - r * n ≡ n = omega arith in rw e
 
-  module _ (lr : r < 8) (lk : k ≤ 16) (room : 9 * n ≤ length ladder) (l : 2 * k < g) {out₀ out : List ℕ} {pairs left : ℕ}
-      (T : Round G bound (take (r * n + n - r * n) (drop (r * n) ladder)) out₀ out pairs left) where
+  module _ (lr : r < 8) (room : 9 * n ≤ length ladder) (l : 2 * k < g) {mates : List ℕ} {pairs : ℕ}
+      (M₀ : Matched G bound (take (r * n + n - r * n) (drop (r * n) ladder)) mates pairs) where
     abbrev next : List ℕ
     next = nextRow row (roundOf G bound row)
 
-    T′ : Round G bound row out₀ out pairs left
-    T′ = rw row-handed at T
+    M : Matched G bound row mates pairs
+    M = rw row-handed at M₀
 
     is-large : large k row ≡ true
     unfolding large
@@ -109,24 +108,28 @@ module _ (G : Graph) (k bound r g : ℕ) (ladder : List ℕ) (R : Ready G (rowAt
     pub climbed-poor : 10 * pairs < g → Climbed G k bound r ladder ladder 0
     unfolding kept poor
     climbed-poor h =
-        let t : ltb (10 * length (roundOf G bound row)) (clusters row) ≡ true = lt-ltb (10 * length (roundOf G bound row)) (clusters row) (omega (arith, R .count, T′ .pairs-are)) in
+        let t : ltb (10 * length (roundOf G bound row)) (clusters row) ≡ true = lt-ltb (10 * length (roundOf G bound row)) (clusters row) (omega (arith, R .count, M .counts)) in
         record { ladder-is = rw (is-large, t); answer-is = rw (is-large, t) }
 
     length-row : length next ≡ n
     length-row = length-next row (mateOf (roundOf G bound row)) ∙ R .row-of .whole
 
-    pub handed-tall : length out₀ ≡ 512 → length out ≡ 512
-    handed-tall h = ap length (T′ .row-is) ∙ length-over next out₀ (omega (arith, length-row, R .proper .few)) ∙ h
+    module _ {out₀ out : List ℕ} {left : ℕ} (J₀ : Joined (take (r * n + n - r * n) (drop (r * n) ladder)) (mateIn mates) out₀ out left) where
+      J : Joined row (mateOf (roundOf G bound row)) out₀ out left
+      J = tried-joined bound R M (rw row-handed at J₀)
 
-    pub climbed-kept : g ≤ 10 * pairs → {q : List ℕ} → q ≡ take (length (take (r * n + n + n - (r * n + n)) (drop (r * n + n) ladder))) out
-        → Climbed G k bound r ladder (putMid (r * n + n) (r * n + n + n - (r * n + n)) ladder q) left
-    unfolding kept poor
-    climbed-kept h {q} eq =
-        let t : ltb (10 * length (roundOf G bound row)) (clusters row) ≡ false = le-ltb (10 * length (roundOf G bound row)) (clusters row) (omega (arith, R .count, T′ .pairs-are)) in
-        let e : r * n + n + n - (r * n + n) ≡ n = omega arith in
-        let le : length (take (r * n + n + n - (r * n + n)) (drop (r * n + n) ladder)) ≡ n = rw e (length-taken ladder (r * n + n) n (rows-in r n (length ladder) lr room)) in
-        let qi : q ≡ next = eq ∙ ap (λ (z : ℕ). take z out) le ∙ ap (take n) (T′ .row-is) ∙ take-over next out₀ n length-row in
-        record {
-          ladder-is = put-part ladder next q (r * n + n) (r * n + n + n - (r * n + n)) qi (e ∙ sym length-row) ∙ rw (is-large, t);
-          answer-is = T′ .left ∙ rw (is-large, t);
-        }
+      pub handed-tall : length out₀ ≡ 512 → length out ≡ 512
+      handed-tall h = ap length (J .row-is) ∙ length-over next out₀ (omega (arith, length-row, R .proper .few)) ∙ h
+
+      pub climbed-kept : g ≤ 10 * pairs → {q : List ℕ} → q ≡ take (length (take (r * n + n + n - (r * n + n)) (drop (r * n + n) ladder))) out
+          → Climbed G k bound r ladder (putMid (r * n + n) (r * n + n + n - (r * n + n)) ladder q) left
+      unfolding kept poor
+      climbed-kept h {q} eq =
+          let t : ltb (10 * length (roundOf G bound row)) (clusters row) ≡ false = le-ltb (10 * length (roundOf G bound row)) (clusters row) (omega (arith, R .count, M .counts)) in
+          let e : r * n + n + n - (r * n + n) ≡ n = omega arith in
+          let le : length (take (r * n + n + n - (r * n + n)) (drop (r * n + n) ladder)) ≡ n = rw e (length-taken ladder (r * n + n) n (rows-in r n (length ladder) lr room)) in
+          let qi : q ≡ next = eq ∙ ap (λ (z : ℕ). take z out) le ∙ ap (take n) (J .row-is) ∙ take-over next out₀ n length-row in
+          record {
+            ladder-is = put-part ladder next q (r * n + n) (r * n + n + n - (r * n + n)) qi (e ∙ sym length-row) ∙ rw (is-large, t);
+            answer-is = J .count-is ∙ rw (is-large, t);
+          }

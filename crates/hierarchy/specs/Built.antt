@@ -17,13 +17,6 @@ use Rattle.matching.specs.Held.{Weights}
 use Rattle.row_lists.specs.Carry.{Between, Next, Merged}
 use Rattle.hierarchy.specs.Climb.{kept, keptOf, ladderAfter}
 
--- a round on a row: how many pairs and clusters, and the next row in the front of an array
-pub record Round (G : Graph) (bound : ℕ) (row out out′ : List ℕ) (pairs clusters-left : ℕ) : Type 0 where
-  pub pairs-are : pairs ≡ length (roundOf G bound row)
-  pub few : pairs ≤ 512
-  pub left : clusters-left ≡ clusters (nextRow row (roundOf G bound row))
-  pub row-is : out′ ≡ over (nextRow row (roundOf G bound row)) out
-
 -- what is carried of a row with g clusters: its lists, the clusters' costs and their topological order
 pub record Carries (G : Graph) (row : List ℕ) (g : ℕ) (weights froms tos widths order : List ℕ) : Type 0 where
   pub onto : (c : ℕ) → c < g → (v : ℕ) × (v < vertices G) × (getD row v 0 ≡ c)

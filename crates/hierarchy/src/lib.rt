@@ -2,23 +2,15 @@
 ghost use mathlib.Core.Path.{_≡_};
 ghost use Prim.Native.Nat.{_+_, _*_, _<_, _≤_};
 ghost use lib.ListN.{length, take};
-ghost use Rattle.contraction.specs.Next.{nextRow, Renamed};
 ghost use Rattle.contraction.proofs.Rounds.{Sound};
-ghost use Rattle.matching.specs.Choice.{roundOf};
 ghost use Rattle.graph.specs.Graph.{graphOf, identity, arcs};
 ghost use Rattle.graph.specs.Links.{Linked, leave};
 ghost use Rattle.topology.specs.Order.{orderOf};
-ghost use Rattle.matching.specs.Held.{Ready};
+ghost use Rattle.matching.specs.Held.{Ready, Matched};
 ghost use Rattle.row_lists.specs.Carry.{Maps};
-ghost use Rattle.hierarchy.specs.Built.{Round, Carries, rowAt, Climbs, Carried, Carrying, LinkedAt, Room, Steps, HandsOn, HandedOn, Buildable, Built};
+ghost use Rattle.hierarchy.specs.Built.{Carries, rowAt, Climbs, Carried, Carrying, LinkedAt, Room, Steps, HandsOn, HandedOn, Buildable, Built};
 
-// How many pairs a round made, and how many clusters it leaves.
-pub struct Outcome {
-    pub pairs: usize,
-    pub clusters: usize,
-}
-
-// A round on a row of g clusters, by its lists: the next row in the front of out, and the new number of each cluster in map.
+// The pairs of a round on a row of g clusters, by its lists: the mate of each cluster. Answers how many pairs there are.
 fn try_round(
     costs: &[u16],
     row: &[u16],
@@ -35,17 +27,14 @@ fn try_round(
     order: &[u16],
     g: usize,
     bound: u32,
-    map: &mut [u16; 512],
-    out: &mut [u16; 512],
-) -> Outcome
+    mates: &mut [u16; 512],
+) -> usize
     requires { ⌜ Ready (graphOf (now costs) (now starts) (now ends) (now widths)) (now row) g ⌝ }
     requires { ⌜ Carries (graphOf (now costs) (now starts) (now ends) (now widths)) (now row) g (now weights) (now from) (now to) (now width) (now order) ⌝ }
-    requires { ⌜ (now id ≡ identity g) × (length (now out) ≡ 512) × Linked (leave (arcs (now id) (now from) (now to))) (length (now from)) (now head) (now next) ⌝ }
-    ensures { λ r. ⌜ Round (graphOf (now (costs .entry)) (now (starts .entry)) (now (ends .entry)) (now (widths .entry))) bound (now (row .entry)) (now (out .entry)) (now (out .exit)) (r .pairs) (r .clusters) ⌝ }
-    ensures { λ _. ⌜ Renamed (now (row .entry)) (nextRow (now (row .entry)) (roundOf (graphOf (now (costs .entry)) (now (starts .entry)) (now (ends .entry)) (now (widths .entry))) bound (now (row .entry)))) (now (map .exit)) ⌝ }
+    requires { ⌜ (now id ≡ identity g) × Linked (leave (arcs (now id) (now from) (now to))) (length (now from)) (now head) (now next) ⌝ }
+    ensures { λ r. ⌜ Matched (graphOf (now (costs .entry)) (now (starts .entry)) (now (ends .entry)) (now (widths .entry))) bound (now (row .entry)) (now (mates .exit)) r ⌝ }
 {
-    let mut mates = [0; 512];
-    let pairs = matching::round(
+    matching::round(
         weights,
         id,
         from,
@@ -56,13 +45,8 @@ fn try_round(
         order,
         g,
         bound,
-        &mut mates,
-    );
-    let clusters = contraction::next_row(row, &mates, map, out);
-    Outcome {
-        pairs: pairs,
-        clusters: clusters,
-    }
+        mates,
+    )
 }
 
 // The front of an array into a row.
@@ -124,8 +108,8 @@ fn climb(
     let a = r * n;
     let b = a + n;
     let e = b + n;
-    let mut out = [0; 512];
-    let t = try_round(
+    let mut mates = [0; 512];
+    let pairs = try_round(
         costs,
         &ladder[a..b],
         starts,
@@ -141,14 +125,15 @@ fn climb(
         order,
         g,
         bound,
-        map,
-        &mut out,
+        &mut mates,
     );
-    if 10 * t.pairs < g {
+    if 10 * pairs < g {
         return 0;
     }
+    let mut out = [0; 512];
+    let h = contraction::next_row(&ladder[a..b], &mates, map, &mut out);
     copy_row(&out, &mut ladder[b..e]);
-    t.clusters
+    h
 }
 
 // The lists, the costs, the order and the links of row r + 1 after those of row r: map gives each of the g clusters its new number, one of h.

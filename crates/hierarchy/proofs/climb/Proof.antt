@@ -1,11 +1,22 @@
+-- a round that is kept leaves its row behind row r; where too few pairs were made no row is worked at all
 use mathlib.Core.Path.{refl}
 use native.Mathlib.Omega.{arith}
 use lib.ListN.{length}
+use Prim.Native.Nat.{_*_, _≤_}
 use Rattle.hierarchy.proofs.Climbs.{rows-in, row-handed, climbed-small, climbed-poor, climbed-kept}
-use Rattle.hierarchy.proofs.Climbs.{place-low, handed-tall, taken-low}
+use Rattle.hierarchy.proofs.Climbs.{place-low, handed-tall, taken-low, tried-mated, ready-short, tried-renamed}
 use borrow.Author.Needs.{needs}
 use Rattle.hierarchy.proofs.climb.Statement.{statement}
 use Rattle.hierarchy.proofs.climb.Tie as tie
+
+abbrev start : tie.Else1 → tie.Start
+start c = c .before .before .before .before .before .before .before .before .before .before .before
+
+low : (c : tie.Else1) → start c .args .r * length (start c .args .costs .now) ≤ 4096
+low c = let s = start c in place-low (s .args .r) (length (s .args .costs .now)) (s .pre .1 .1 .1 .0 .0) (s .pre .0 .proper .few)
+
+abbrev tried : tie.Else2 → tie.Else1
+tried c = c .before .before .before .before .before
 
 pub climb-spec : {M : Type 1} → statement M
 climb-spec =
@@ -13,21 +24,26 @@ climb-spec =
     (tie.spec
     (λ c. search needs)
     (λ c. record { climbed = climbed-small _ _ _ _ _ _ (c .before .before .before .before .before .before .before .before .before .before .before .pre .0) (omega (arith, c .if1 .taken)); renamed = λ n. absurd (n refl) })
-    (λ c. let s = c .before .before .before .before .before .before .before .before .before .before .before in omega (arith, place-low (s .args .r) (length (s .args .costs .now)) (s .pre .1 .1 .1 .0 .0) (s .pre .0 .proper .few), s .pre .0 .proper .few))
-    (λ c. let s = c .before .before .before .before .before .before .before .before .before .before .before in omega (arith, place-low (s .args .r) (length (s .args .costs .now)) (s .pre .1 .1 .1 .0 .0) (s .pre .0 .proper .few), s .pre .0 .proper .few))
-    (λ c. let s = c .before .before .before .before .before .before .before .before .before .before .before in omega (arith, place-low (s .args .r) (length (s .args .costs .now)) (s .pre .1 .1 .1 .0 .0) (s .pre .0 .proper .few), s .pre .0 .proper .few))
-    (λ c. let s = c .before .before .before .before .before .before .before .before .before .before .before in omega (arith, place-low (s .args .r) (length (s .args .costs .now)) (s .pre .1 .1 .1 .0 .0) (s .pre .0 .proper .few)))
+    (λ c. omega (arith, low c, start c .pre .0 .proper .few))
+    (λ c. omega (arith, low c, start c .pre .0 .proper .few))
+    (λ c. omega (arith, low c, start c .pre .0 .proper .few))
+    (λ c. omega (arith, low c))
     (λ c. search needs)
     (λ c. search needs)
-    (λ c. let s = c .before .before .before .before .before .before .before .before .before .before .before .before in let h = rows-in (s .args .r) (length (s .args .costs .now)) (length (s .args .ladder .now)) (s .pre .1 .1 .1 .0 .0) (s .pre .1 .1 .1 .1) in search needs)
-    (λ c κs. let s = c .before .before .before .before .before .before .before .before .before .before .before .before .before .before .before in rw (row-handed _ (s .args .k) 0 (s .args .r) _ _ (s .pre .0)) (s .pre .0, (s .pre .1 .0, (s .pre .1 .1 .0, refl, s .pre .1 .1 .1 .0 .2))))
+    (λ c. let s = start (c .before) in let h = rows-in (s .args .r) (length (s .args .costs .now)) (length (s .args .ladder .now)) (s .pre .1 .1 .1 .0 .0) (s .pre .1 .1 .1 .1) in search needs)
+    (λ c κs. let s = start (c .before .before .before) in rw (row-handed _ (s .args .k) 0 (s .args .r) _ _ (s .pre .0)) (s .pre .0, (s .pre .1 .0, (s .pre .1 .1 .0, s .pre .1 .1 .1 .0 .2))))
     (λ c. search needs)
     (λ c. search needs)
-    (λ c. let s = c .before .before .before .before .before .before .before .before .before .before .before .before .before .before .before .before .before .before in record { climbed = climbed-poor _ _ _ _ _ _ (s .pre .0) (s .pre .1 .1 .1 .0 .0) (s .pre .1 .1 .1 .0 .1) (s .pre .1 .1 .1 .1) (c .before .before .before .before .before .before .before .if1 .left) (c .before .before .try-round .ensures .0) (c .if2 .taken); renamed = λ n. absurd (n refl) })
-    (λ c. let s = c .before .before .before .before .before .before .before .before .before .before .before .before .before .before .before .before .before .before .before in omega (arith, place-low (s .args .r) (length (s .args .costs .now)) (s .pre .1 .1 .1 .0 .0) (s .pre .0 .proper .few), s .pre .0 .proper .few))
+    (λ c. let e = c .before .before .before .before .before in let s = start e in record { climbed = climbed-poor _ _ _ _ _ _ (s .pre .0) (s .pre .1 .1 .1 .0 .0) (s .pre .1 .1 .1 .1) (e .if1 .left) (c .before .try-round .ensures) (c .if2 .taken); renamed = λ n. absurd (n refl) })
+    (λ c. omega (arith, low (tried c), start (tried c) .pre .0 .proper .few))
     (λ c. search needs)
     (λ c. search needs)
-    (λ c. let s = c .before .before .before .before .before .before .before .before .before .before .before .before .before .before .before .before .before .before .before in let h = rows-in (s .args .r) (length (s .args .costs .now)) (length (s .args .ladder .now)) (s .pre .1 .1 .1 .0 .0) (s .pre .1 .1 .1 .1) in search needs)
-    (λ c κs. let s = c .before .before .before .before .before .before .before .before .before .before .before .before .before .before .before .before .before .before .before .before in (handed-tall _ _ _ _ _ _ (s .pre .0) (s .pre .1 .1 .1 .0 .0) (s .pre .1 .1 .1 .0 .1) (s .pre .1 .1 .1 .1) (c .before .before .before .before .before .before .before .before .before .if1 .left) (c .before .before .before .before .try-round .ensures .0) refl, taken-low _ _ _ (s .pre .0 .proper .few)))
+    (λ c. let s = start (tried (c .before)) in let h = rows-in (s .args .r) (length (s .args .costs .now)) (length (s .args .ladder .now)) (s .pre .1 .1 .1 .0 .0) (s .pre .1 .1 .1 .1) in search needs)
+    (λ c κs. let e = c .before .before .before .before .before in let s = start (tried e) in let q = row-handed _ (s .args .k) 0 (s .args .r) _ _ (s .pre .0) in rw q ((ready-short 0 (s .pre .0), tried-mated _ (s .pre .0) (rw q at (e .before .try-round .ensures))), refl))
+    (λ c. omega (arith, low (tried (c .before .before .before .before .before .before .before)), start (tried (c .before .before .before .before .before .before .before)) .pre .0 .proper .few))
     (λ c. search needs)
-    (λ c. let s = c .before .before .before .before .before .before .before .before .before .before .before .before .before .before .before .before .before .before .before .before .before .before .before in record { climbed = climbed-kept _ _ _ _ _ _ (s .pre .0) (s .pre .1 .1 .1 .0 .0) (s .pre .1 .1 .1 .0 .1) (s .pre .1 .1 .1 .1) (c .before .before .before .before .before .before .before .before .before .before .before .before .if1 .left) (c .before .before .before .before .before .before .before .try-round .ensures .0) (c .before .before .before .before .before .if2 .left) (c .before .before .copy-row .ensures); renamed = λ _. rw (row-handed _ (s .args .k) 0 (s .args .r) _ _ (s .pre .0)) at (c .before .before .before .before .before .before .before .try-round .ensures .1) }))
+    (λ c. search needs)
+    (λ c. let s = start (tried (c .before .before .before .before .before .before .before)) in let h = rows-in (s .args .r) (length (s .args .costs .now)) (length (s .args .ladder .now)) (s .pre .1 .1 .1 .0 .0) (s .pre .1 .1 .1 .1) in search needs)
+    (λ c κs. let e = c .before .before .before .before .before .before .before .before in let s = start (tried e) in (handed-tall _ _ _ _ _ _ (s .pre .0) (s .pre .1 .1 .1 .0 .0) (s .pre .1 .1 .1 .1) (tried e .if1 .left) (e .before .try-round .ensures) (c .before .before .next-row .ensures .0) refl, taken-low _ _ _ (s .pre .0 .proper .few)))
+    (λ c. search needs)
+    (λ c. let e = c .before .before .before .before .before .before .before .before .before .before .before in let s = start (tried e) in let q = row-handed _ (s .args .k) 0 (s .args .r) _ _ (s .pre .0) in let N = c .before .before .before .before .before .next-row .ensures in record { climbed = climbed-kept _ _ _ _ _ _ (s .pre .0) (s .pre .1 .1 .1 .0 .0) (s .pre .1 .1 .1 .1) (tried e .if1 .left) (e .before .try-round .ensures) (N .0) (e .if2 .left) (c .before .before .copy-row .ensures); renamed = λ _. tried-renamed _ (s .pre .0) (rw q at (e .before .try-round .ensures)) (rw q at (N .0)) (rw q at (N .1)) }))
