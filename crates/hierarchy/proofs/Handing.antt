@@ -1,26 +1,25 @@
 -- The lists, costs and order of the next row: what the calls ask for, and what they leave.
-use Prim.Native.Nat.{ℕ, zero, suc, _+_, _-_, _*_, _≤_, _<_}
-use mathlib.Core.Path.{_≡_, refl, sym, ap, _∙_}
-use mathlib.Core.List.{List, _++_}
+use Prim.Native.Nat.{ℕ, _+_, _-_, _*_, _≤_, _<_}
+use mathlib.Core.Path.{_≡_, sym, ap, _∙_}
+use mathlib.Core.List.{List}
 use native.Mathlib.Nat.{suc-mul, mul-le-mul-right}
 use native.Mathlib.Omega.{arith}
-use lib.Dec.{ltb}
 use lib.ListN.{length, getD, set, take, drop}
 use lib.Seq.{getD-set-same}
 use borrow.Rule.Slice.PartMut.{putMid}
-use Rattle.folds.specs.Fold.{pick, firstTo, listTo, over, put, part, zeros}
-use Rattle.folds.proofs.Cases.{by}
+use Rattle.folds.specs.Fold.{listTo, over, put, part}
 use Rattle.folds.proofs.Lists.{listTo-ext, listTo-getD, length-listTo}
 use Rattle.folds.proofs.Slices.{put-part, length-part, length-over, length-put}
 use Rattle.folds.proofs.Parts.{part-put}
-use Rattle.graph.specs.Graph.{Arcs, identity, arcs}
+use Rattle.graph.specs.Graph.{identity, arcs}
 use Rattle.graph.specs.Links.{Linked, Joins, leave}
 use Rattle.graph.proofs.Edges.{identity-at}
-use Rattle.graph.proofs.Coarse.{coarse-joins, coarse-inside}
-use Rattle.topology.specs.Order.{ready, orNone, orderFrom, orderOf}
-use Rattle.row_lists.specs.Carry.{Between, Maps, Next, Merged}
+use Rattle.graph.proofs.Coarse.{coarse-joins}
+use Rattle.topology.specs.Order.{orderOf}
+use Rattle.topology.proofs.Orders.{order-few}
+use Rattle.row_lists.specs.Carry.{Next}
 use Rattle.row_lists.proofs.Carrying.{handed}
-use Rattle.hierarchy.specs.Built.{LinkedAt, HandsOn, HandedOn}
+use Rattle.hierarchy.specs.Built.{LinkedAt}
 
 -- the front of the identity
 pub identity-front : (g n : ℕ) → g ≤ n → take g (identity n) ≡ identity g
@@ -30,18 +29,6 @@ identity-front g n l = sym (listTo-ext g (λ v. v) (λ k. getD (listTo n (λ v. 
 pub id-length : {id : List ℕ} (n : ℕ) → id ≡ identity n → length id ≡ n
 unfolding identity
 id-length n e = ap length e ∙ length-listTo n (λ v. v)
-
--- the order takes no more than there are
-from-few : (A : Arcs) (g k : ℕ) (marks : List ℕ) → length (orderFrom A g k marks) ≤ k
-unfolding orderFrom orNone
-from-few A g zero marks = omega arith
-from-few A g (suc k) marks =
-    let v = firstTo g (ready A marks) in
-    by (ltb v g) (λ t. rw t (omega (arith, from-few A g k (set marks v 1)))) (λ t. rw t (omega arith))
-
-order-few : (A : Arcs) (g : ℕ) → length (orderOf A g) ≤ g
-unfolding orderOf
-order-few A g = from-few A g g (zeros g)
 
 -- places of rows of m entries
 pub next-place : (r m : ℕ) → r < 8 → r * m + m + m ≤ 9 * m

@@ -2,6 +2,7 @@ pub mod Waiting
 pub mod Opens
 pub mod Orders
 pub mod Reaches
+pub mod Free
 pub mod Searching
 pub mod Levels
 pub mod Sorted

@@ -161,6 +161,18 @@ order-takes A g (suc k) marks n =
     (order-takes A g k (set marks (firstTo g (ready A marks)) 1) (rw (length-set marks (firstTo g (ready A marks)) 1) n))))
     (λ f. rw f (takes-none A g marks))
 
+-- the order takes no more than there are
+from-few : (A : Arcs) (g k : ℕ) (marks : List ℕ) → length (orderFrom A g k marks) ≤ k
+unfolding orderFrom orNone
+from-few A g zero marks = omega arith
+from-few A g (suc k) marks =
+    let v = firstTo g (ready A marks) in
+    by (ltb v g) (λ t. rw t (omega (arith, from-few A g k (set marks v 1)))) (λ t. rw t (omega arith))
+
+pub order-few : (A : Arcs) (g : ℕ) → length (orderOf A g) ≤ g
+unfolding orderOf
+order-few A g = from-few A g g (zeros g)
+
 -- each that is left is taken, where as many are taken as are left
 order-onto : (A : Arcs) (g k : ℕ) (marks : List ℕ) → g ≤ length marks → countTo g (unmarked marks) ≡ k → length (orderFrom A g k marks) ≡ k
     → (v : ℕ) → v < g → unmarked marks v ≡ true → (i : ℕ) × (i < k) × (getD (orderFrom A g k marks) i 0 ≡ v)
@@ -207,6 +219,10 @@ module _ (A : Arcs) (g : ℕ) (inside : Inside A g) where
   pub order-once : (i j : ℕ) → i < length (orderOf A g) → j < length (orderOf A g) → getD (orderOf A g) i 0 ≡ getD (orderOf A g) j 0 → i ≡ j
   order-once = takes-zeros .once
 
+  -- what goes into one that is taken was taken before it
+  pub order-before : (i u : ℕ) → i < length (orderOf A g) → Edge A u (getD (orderOf A g) i 0) → (j : ℕ) × (j < i) × (getD (orderOf A g) j 0 ≡ u)
+  order-before i u l e = either (takes-zeros .after i u l e) (λ f. absurd (no-bool (sym f ∙ eq-eqb _ 0 (getD-zeros g u)))) (λ w. w)
+
   module _ (all : length (orderOf A g) ≡ g) where
     -- a number below g stands at its place, and a place is that of what stands there
     pub place-at : (v : ℕ) → v < g → (placeIn (orderOf A g) v < g) × (getD (orderOf A g) (placeIn (orderOf A g) v) 0 ≡ v)
@@ -227,9 +243,8 @@ module _ (A : Arcs) (g : ℕ) (inside : Inside A g) where
     order-rises a b e =
         let (la, lb) = edge-inside A g inside a b e in
         let (h, q) = place-at b lb in
-        either (takes-zeros .after (placeIn (orderOf A g) b) a (omega (arith, all)) (rw q e))
-        (λ f. absurd (no-bool (sym f ∙ eq-eqb _ 0 (getD-zeros g a))))
-        (λ w. let (j, lj, ej) = w in let k = place-of j (omega arith) in let r : placeIn (orderOf A g) a ≡ j = sym (ap (placeIn (orderOf A g)) ej) ∙ k in omega arith)
+        let (j, lj, ej) = order-before (placeIn (orderOf A g) b) a (omega (arith, all)) (rw q e) in
+        let k = place-of j (omega arith) in let r : placeIn (orderOf A g) a ≡ j = sym (ap (placeIn (orderOf A g)) ej) ∙ k in omega arith
 
     pub all-acyclic : Acyclic (Edge A)
     all-acyclic = rank-law (Edge A) (placeIn (orderOf A g)) order-rises

@@ -10,7 +10,7 @@ ghost use Rattle.graph.specs.Graph.{arcs, Edge, Inside};
 ghost use Rattle.graph.specs.Links.{Linked, Joins, leave};
 ghost use Rattle.topology.specs.Order.{orderOf};
 ghost use Rattle.topology.specs.Reach.{onCycle, lowestOnCycle};
-ghost use Rattle.topology.specs.Search.{marked, Queued, Spread, Entered};
+ghost use Rattle.topology.specs.Search.{marked, Queued, Spread, Entered, OffCycles, SetAside, Ordering};
 ghost use Rattle.topology.specs.Counts.{gone, Counted, Passed, Released, Across, openAt};
 ghost use Rattle.pool.specs.Pool.{Kept, putOf};
 ghost use lib.Dec.{eqb};
@@ -266,10 +266,33 @@ fn returns_to(
     marks[v] != 0
 }
 
-// The lowest of g clusters from which a walk comes back, or g.
-fn search_cycle(row: &[u16], starts: &[u16], ends: &[u16], g: usize) -> usize
+// Whether v lies on a cycle: those set aside do not.
+fn is_on_cycle(
+    row: &[u16],
+    starts: &[u16],
+    ends: &[u16],
+    head: &[u16; 513],
+    next: &[u16; 1024],
+    aside: &[u8; 512],
+    g: usize,
+    v: usize,
+) -> bool
     requires { ⌜ Joins (now row) (now starts) (now ends) ⌝ }
-    requires { ⌜ Inside (arcs (now row) (now starts) (now ends)) g ⌝ }
+    requires { ⌜ Linked (leave (arcs (now row) (now starts) (now ends))) (length (now starts)) (now head) (now next) ⌝ }
+    requires { ⌜ Inside (arcs (now row) (now starts) (now ends)) g × OffCycles (arcs (now row) (now starts) (now ends)) g (now aside) ⌝ }
+    requires { ⌜ v < 512 ⌝ }
+    ensures { λ r. ⌜ r ≡ onCycle (arcs (now (row .entry)) (now (starts .entry)) (now (ends .entry))) g v ⌝ }
+{
+    if aside[v] != 0 {
+        return false;
+    }
+    returns_to(row, starts, ends, head, next, g, v)
+}
+
+// The lowest of g clusters from which a walk comes back, or g.
+fn search_cycle(row: &[u16], starts: &[u16], ends: &[u16], aside: &[u8; 512], g: usize) -> usize
+    requires { ⌜ Joins (now row) (now starts) (now ends) ⌝ }
+    requires { ⌜ Inside (arcs (now row) (now starts) (now ends)) g × OffCycles (arcs (now row) (now starts) (now ends)) g (now aside) ⌝ }
     requires { ⌜ g ≤ 512 ⌝ }
     ensures { λ r. ⌜ r ≡ lowestOnCycle (arcs (now (row .entry)) (now (starts .entry)) (now (ends .entry))) g ⌝ }
 {
@@ -278,12 +301,49 @@ fn search_cycle(row: &[u16], starts: &[u16], ends: &[u16], g: usize) -> usize
     graph::fill_leaving(row, starts, ends, &mut head, &mut next);
     let mut v: usize = 0;
     while v < g {
-        if returns_to(row, starts, ends, &head, &next, g, v) {
+        if is_on_cycle(row, starts, ends, &head, &next, aside, g, v) {
             return v;
         }
         v += 1;
     }
     v
+}
+
+// Sets the first n entries of an order aside.
+fn set_aside(order: &[u16; 512], n: usize, aside: &mut [u8; 512])
+    requires { ⌜ (n ≤ 512) × ((i : ℕ) → i < n → getD (now order) i 0 < 512) ⌝ }
+    requires { ⌜ length (now aside) ≡ 512 ⌝ }
+    ensures { λ _. ⌜ SetAside (now (order .entry)) n (now (aside .entry)) (now (aside .exit)) ⌝ }
+{
+    let mut i: usize = 0;
+    while i < n {
+        let v = folds::wide(order[i]);
+        aside[v] = 1;
+        i += 1;
+    }
+}
+
+// The lowest on a cycle, where the order took `count` clusters and not all: neither these nor what the order of the edges
+// turned round takes need a search.
+fn search_rest(
+    row: &[u16],
+    starts: &[u16],
+    ends: &[u16],
+    g: usize,
+    taken: &[u16; 512],
+    count: usize,
+) -> usize
+    requires { ⌜ Joins (now row) (now starts) (now ends) ⌝ }
+    requires { ⌜ Inside (arcs (now row) (now starts) (now ends)) g × (g ≤ 512) ⌝ }
+    requires { ⌜ Ordering (arcs (now row) (now starts) (now ends)) g (now taken) count ⌝ }
+    ensures { λ r. ⌜ r ≡ lowestOnCycle (arcs (now (row .entry)) (now (starts .entry)) (now (ends .entry))) g ⌝ }
+{
+    let mut turned = [0u16; 512];
+    let back = order(row, ends, starts, g, &mut turned);
+    let mut aside = [0u8; 512];
+    set_aside(taken, count, &mut aside);
+    set_aside(&turned, back, &mut aside);
+    search_cycle(row, starts, ends, &aside, g)
 }
 
 // The lowest of g clusters that lies on a cycle, or g: the search runs only where the order does not take all.
@@ -305,5 +365,5 @@ pub fn lowest_on_cycle(
     if count == g {
         return g;
     }
-    search_cycle(row, starts, ends, g)
+    search_rest(row, starts, ends, g, taken, count)
 }

@@ -1,6 +1,7 @@
--- all are taken where there is no cycle; else each is tried
+-- all are taken where there is no cycle; else those that are left are tried
 use native.Mathlib.Omega.{arith}
 use Rattle.topology.proofs.Reaches.{all-taken}
+use Rattle.topology.proofs.Free.{ordering}
 use borrow.Author.Needs.{needs}
 use Rattle.topology.proofs.lowest_on_cycle.Statement.{statement}
 use Rattle.topology.proofs.lowest_on_cycle.Tie as tie
@@ -11,5 +12,5 @@ lowest-on-cycle-spec =
     (tie.spec
     (λ c κs. let p = c .before .before .before .before .pre in (p .0, (p .1 .1 .0, omega (arith, p .1 .1 .0, p .1 .1 .1))))
     (λ c. let p = c .before .before .before .before .before .before .pre in (all-taken _ _ (p .1 .0) (c .before .order .ensures .0) (c .if1 .taken), c .before .order .ensures .1))
-    (λ c κs. search needs)
+    (λ c κs. let p = c .before .before .before .before .before .before .before .pre in let o = c .before .before .order .ensures in (p .0, ((p .1 .0, p .1 .1 .0), ordering _ _ _ (p .1 .1 .0) (o .0) (o .1))))
     (λ c. search needs))

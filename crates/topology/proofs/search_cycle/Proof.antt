@@ -1,3 +1,4 @@
+-- none below v lies on a cycle
 use Rattle.topology.specs.Reach.{onCycle, lowestOnCycle}
 use Rattle.graph.specs.Graph.{arcs}
 use Rattle.graph.specs.Links.{Linked, leave}
@@ -12,11 +13,11 @@ use Rattle.topology.proofs.search_cycle.Statement.{statement}
 use Rattle.topology.proofs.search_cycle.Tie as tie
 
 abbrev Inv-loop : tie.InvT-loop
-Inv-loop row starts ends g head next v₀ v =
+Inv-loop row starts ends aside g head next v₀ v =
     (v ≤ g) × Linked (leave (arcs row starts ends)) (length starts) head next × (firstTo v (onCycle (arcs row starts ends) g) ≡ v)
 
 abbrev μ-loop : tie.MeasureT-loop
-μ-loop row starts ends g head next v₀ v = g - v
+μ-loop row starts ends aside g head next v₀ v = g - v
 
 pub search-cycle-spec : {M : Type 1} → statement M
 unfolding lowestOnCycle
@@ -26,8 +27,8 @@ search-cycle-spec =
     (λ c κs. search needs)
     (λ c. (omega arith, c .fill-leaving .ensures, firstTo-zero _))
     (λ c κs. let p = c .before .before .before .before .before .before .before .before .before .before .pre in (p .0, (c .before .before .before .loop .inv .1, (p .1 .0, omega arith))))
-    (λ c. search (firstTo-at, sym (c .before .returns-to .ensures) ∙ c .if1 .taken))
+    (λ c. search (firstTo-at, sym (c .before .is-on-cycle .ensures) ∙ c .if1 .taken))
     (λ c. search needs)
     (λ c. search needs)
-    (λ c. (omega arith, search needs, search (firstTo-more, sym (c .before .returns-to .ensures) ∙ c .if1 .left)))
+    (λ c. (omega arith, search needs, search (firstTo-more, sym (c .before .is-on-cycle .ensures) ∙ c .if1 .left)))
     (λ c. search firstTo-end))
