@@ -122,10 +122,31 @@ fn partition(
     requires { ⌜ (take (length (now costs)) (now order) ≡ orderOf (arcs (identity (length (now costs))) (now starts) (now ends)) (length (now costs))) × (length (now order) ≡ 512) ⌝ }
     ensures { λ r. ⌜ Works (graphOf (now (costs .entry)) (now (starts .entry)) (now (ends .entry)) (now (widths .entry))) k bound (now (table .entry)) (now (ladder .entry)) (now (table .exit)) (now (ladder .exit)) r ⌝ }
 {
+    let mut orders = [0; 4608];
+    // few edges: an array's length is what a call clears
+    if starts.len() <= 128 {
+        let mut froms = [0; 1152];
+        let mut tos = [0; 1152];
+        let mut wides = [0; 1152];
+        return phases(
+            costs,
+            starts,
+            ends,
+            widths,
+            k,
+            bound,
+            order,
+            table,
+            ladder,
+            &mut froms,
+            &mut tos,
+            &mut wides,
+            &mut orders,
+        );
+    }
     let mut froms = [0; 9216];
     let mut tos = [0; 9216];
     let mut wides = [0; 9216];
-    let mut orders = [0; 4608];
     phases(
         costs,
         starts,
