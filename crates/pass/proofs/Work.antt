@@ -1,6 +1,6 @@
 -- The choice of a part and the visit of a cluster, from what the code's branches say.
-use Prim.Native.Nat.{ℕ, _+_, _-_, _≤_, _<_}
-use mathlib.Core.Path.{_≡_, refl, ap, _∙_}
+use Prim.Native.Nat.{ℕ, _+_, _-_, _≤_, _<_, _^_}
+use mathlib.Core.Path.{_≡_, refl, sym, ap, _∙_}
 use mathlib.Core.Bool.{Bool, true, false, _&&_}
 use mathlib.Core.List.{List}
 use native.Mathlib.Omega.{arith}
@@ -8,13 +8,15 @@ use lib.Dec.{ltb, leb}
 use lib.ListN.{getD, set, length-set}
 use lib.Seq.{getD-set-same, getD-set-other}
 use borrow.Author.Tests.{lt-ltb, le-ltb, le-leb, lt-leb, ltb-true, leb-true, eq-eqb, ne-eqb}
-use Rattle.folds.specs.Fold.{pick, turns}
-use Rattle.folds.proofs.Cases.{by, both, either, eq-or-ne}
+use Rattle.folds.specs.Fold.{pick, turns, Read}
+use Rattle.folds.proofs.Cases.{by, both, either, eq-or-ne, and-false, no-bool}
 use Rattle.folds.proofs.Loops.{turns-zero, turns-turn}
-use Rattle.visit.specs.Visit.{Placed, Seen}
+use Rattle.visit.specs.Visit.{Placed, pullTo, Pulled}
+use Rattle.visit.specs.Known.{openTo, Known, Fresh}
 use Rattle.part_sums.specs.declared.PartSums.{PartSums}
-use Rattle.part_sums.specs.Sums.{sumsAllow, shifted}
-use Rattle.pass.specs.Work.{betterOf, backOf, choiceOf, Chosen, Work, choiceAt, movedBy, worked, Done}
+use Rattle.part_sums.specs.Sums.{sumsAllow, Shifts, shifted}
+use Rattle.part_sums.proofs.Sums.{allowed-shifts}
+use Rattle.pass.specs.Work.{betterOf, backOf, choiceOf, Chosen, Idle, Work, choiceAt, movedBy, worked, Goal, Done}
 
 module _ (f : ℕ → ℕ) (S : PartSums) (own cost bound : ℕ) where
   pub back-none : (high : ℕ) → high ≡ 0 → own ≡ backOf f S own cost bound high
@@ -50,9 +52,36 @@ module _ (f : ℕ → ℕ) (S : PartSums) (own cost bound : ℕ) where
       by (candidate && (ltb (f best) (f t) && sumsAllow S own t cost bound)) (λ e. rw e (both (ltb (f best) (f t)) _ (both candidate _ e .1) .1))
       (λ e. let m = rw e at n in rw e (old m))
 
-  pub choice-allowed : (low high : ℕ) → (choiceOf f S own cost bound low high ≡ own → ⊥) → sumsAllow S own (choiceOf f S own cost bound low high) cost bound ≡ true
+  choice-allowed : (low high : ℕ) → (choiceOf f S own cost bound low high ≡ own → ⊥) → sumsAllow S own (choiceOf f S own cost bound low high) cost bound ≡ true
   unfolding choiceOf backOf
   choice-allowed low high n = better-allowed _ low _ (λ m. better-allowed _ (high - 1) own (λ z. absurd (z refl)) m) n
+
+  -- where no candidate is allowed
+  better-barred : (candidate : Bool) (t best : ℕ) → sumsAllow S own t cost bound ≡ false → betterOf f S own cost bound candidate t best ≡ best
+  unfolding betterOf
+  better-barred candidate t best e = rw (e, and-false (ltb (f best) (f t)), and-false candidate)
+
+  pub back-shut : (high : ℕ) → sumsAllow S own (high - 1) cost bound ≡ false → backOf f S own cost bound high ≡ own
+  unfolding backOf
+  back-shut high e = better-barred _ (high - 1) own e
+
+-- a cluster that stays whatever its widths are, from what the branches say
+module _ (S : PartSums) (own cost bound : ℕ) where
+  pub closed-idle : (low high : ℕ) → openTo own low high (S .count) ≡ false → Idle S own cost bound low high
+  unfolding openTo choiceOf backOf betterOf
+  closed-idle low high e f =
+      by (ltb own low && ltb low (S .count)) (λ t. absurd (no-bool (sym (rw t at e)))) (λ t. let y = rw t at e in rw (t, y))
+
+  module _ (low high : ℕ) where
+    pub idle-under : low ≤ own → ((f : ℕ → ℕ) → backOf f S own cost bound high ≡ own) → Idle S own cost bound low high
+    idle-under l b f = sym (choice-under f S own cost bound low high own l (sym (b f)))
+
+    pub idle-none : own < low → S .count ≤ low → ((f : ℕ → ℕ) → backOf f S own cost bound high ≡ own) → Idle S own cost bound low high
+    idle-none l g b f = sym (choice-none f S own cost bound low high own l g (sym (b f)))
+
+    pub idle-shut : sumsAllow S own low cost bound ≡ false → ((f : ℕ → ℕ) → backOf f S own cost bound high ≡ own) → Idle S own cost bound low high
+    unfolding choiceOf
+    idle-shut e b f = better-barred f S own cost bound _ low _ e ∙ b f
 
 -- the choice depends on the widths to the 16 parts alone
 module _ (f g : ℕ → ℕ) (S : PartSums) (own cost bound : ℕ) (same : (u : ℕ) → u < 16 → f u ≡ g u) where
@@ -79,6 +108,11 @@ module _ (f g : ℕ → ℕ) (S : PartSums) (own cost bound : ℕ) (same : (u : 
       better-ext (ltb own low && ltb low (S .count)) low _ (λ t. let m = ltb-true low (S .count) (both (ltb own low) _ t .1) in omega arith) l .0
       ∙ ap (λ (b : ℕ). betterOf g S own cost bound (ltb own low && ltb low (S .count)) low b) e
 
+pub choice-pulled : {froms tos widths table toward : List ℕ} {S : PartSums} {own cost bound low high h t : ℕ} → own < 16 → S .count ≤ 16
+    → Pulled froms tos widths table h toward → Chosen (λ u. getD toward u 0) S own cost bound low high t → Chosen (pullTo froms tos widths table h) S own cost bound low high t
+choice-pulled {toward = toward} {S} {own} {cost} {bound} {low} {high} lo lc P C =
+    record { is = C .is ∙ choice-ext (λ u. getD toward u 0) _ S own cost bound (P .is) low high lo lc; within = C .within }
+
 pub placed-set : {table : List ℕ} (h t : ℕ) → Placed table → t < 16 → Placed (set table h t)
 placed-set {table} h t p l =
     record {
@@ -89,12 +123,39 @@ placed-set {table} h t p l =
     }
 
 module _ (froms tos widths costs : List ℕ) (bound h : ℕ) where
-  -- what the visit saw, and what was chosen by it
-  pub choice-at : {own cost low high t : ℕ} {toward : List ℕ} (w : Work) → own ≡ getD (w .table) h 0 → cost ≡ getD costs h 0 → own < 16 → w .sums .count ≤ 16
-      → Seen froms tos widths (w .table) h (w .sums .count) low high toward → Chosen (λ u. getD toward u 0) (w .sums) own cost bound low high t → t ≡ choiceAt froms tos widths costs bound h w
+  -- a cluster to which nothing is open stays
+  closed-stays : {low high marks : List ℕ} (w : Work) → h < 512 → Known froms tos (w .table) (w .sums .count) low high marks → getD marks h 0 ≡ 0
+      → choiceAt froms tos widths costs bound h w ≡ getD (w .table) h 0
   unfolding choiceAt
-  choice-at {toward = toward} w eo ec lo lc Z C =
-      C .is ∙ choice-ext (λ u. getD toward u 0) _ (w .sums) _ _ bound (Z .toward-is) _ _ lo lc ∙ rw (eo, ec, Z .low-is, Z .high-is)
+  closed-stays {marks = marks} w l K z =
+      let n : getD marks h 0 ≡ 2 → ⊥ = λ e. omega arith in
+      rw (← K .low-is h l n, ← K .high-is h l n) (closed-idle (w .sums) _ _ bound _ _ (K .closed h l z) _)
+
+  pub goal-closed : {own : ℕ} {low high marks : List ℕ} (w : Work) → h < 512 → Read (w .table) h 16 own → Known froms tos (w .table) (w .sums .count) low high marks
+      → getD marks h 0 ≡ 0 → Goal froms tos widths costs bound h w low high marks own
+  goal-closed w l o K z = record { is = o .is ∙ sym (closed-stays w l K z); within = o .low; known = K }
+
+  -- for any other the choice is by what is known of it
+  pub goal-fresh : {own lo hi t : ℕ} {low high marks : List ℕ} (w : Work) → h < 512 → Read (w .table) h 16 own → Fresh froms tos (w .table) (w .sums .count) h low high marks
+      → lo ≡ getD low h 0 → hi ≡ getD high h 0 → Chosen (pullTo froms tos widths (w .table) h) (w .sums) own (getD costs h 0) bound lo hi t
+      → Goal froms tos widths costs bound h w low high marks t
+  unfolding choiceAt
+  goal-fresh w l o F el eh C =
+      record {
+        is = C .is ∙ rw (o .is, el, eh, F .known .low-is h l (F .right), F .known .high-is h l (F .right));
+        within = C .within;
+        known = F .known;
+      }
+
+  -- where a cluster goes elsewhere: the sums allow it, and its mark is not 0
+  module _ {t : ℕ} {low high marks : List ℕ} (w : Work) (G : Goal froms tos widths costs bound h w low high marks t) (n : t ≡ getD (w .table) h 0 → ⊥) where
+    pub goal-allowed : getD (w .table) h 0 < 16 → bound < 2 ^ 32 → Shifts (w .sums) (getD (w .table) h 0) t (getD costs h 0)
+    unfolding choiceAt
+    goal-allowed lo lb =
+        rw (G .is) (allowed-shifts _ _ _ _ _ (choice-allowed _ _ _ _ _ _ _ (rw (G .is) at n)) lo (rw (G .is) at (G .within)) lb)
+
+    pub goal-marked : h < 512 → getD marks h 0 ≡ 0 → ⊥
+    goal-marked l z = n (G .is ∙ closed-stays w l (G .known) z)
 
   pub worked-stay : (w : Work) (t : ℕ) → t ≡ choiceAt froms tos widths costs bound h w → t ≡ getD (w .table) h 0 → w ≡ worked froms tos widths costs bound h w
   unfolding worked movedBy

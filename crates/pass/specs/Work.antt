@@ -7,6 +7,7 @@ use lib.Dec.{eqb, ltb, leb}
 use lib.ListN.{getD, set}
 use Rattle.folds.specs.Fold.{pick}
 use Rattle.visit.specs.Visit.{Placed, lowNext, highBefore, pullTo}
+use Rattle.visit.specs.Known.{Known}
 use Rattle.part_sums.specs.declared.PartSums.{PartSums}
 use Rattle.pass.specs.declared.Progress.{Progress}
 use Rattle.part_sums.specs.Sums.{sumsAllow, shifted}
@@ -27,6 +28,10 @@ choiceOf f S own cost bound low high =
 pub record Chosen (f : ℕ → ℕ) (S : PartSums) (own cost bound low high r : ℕ) : Type 0 where
   pub is : r ≡ choiceOf f S own cost bound low high
   pub within : r < 16
+
+-- a cluster stays in its part, whatever its widths are
+abbrev pub Idle : PartSums → ℕ → ℕ → ℕ → ℕ → ℕ → Type 0
+Idle S own cost bound low high = (f : ℕ → ℕ) → choiceOf f S own cost bound low high ≡ own
 
 -- the clusters' parts, the sums and the moves made so far
 pub record Work : Type 0 where
@@ -50,6 +55,12 @@ movedBy costs h t w =
 
 unfoldable pub worked : List ℕ → List ℕ → List ℕ → List ℕ → ℕ → ℕ → Work → Work
 worked froms tos widths costs bound h w = movedBy costs h (choiceAt froms tos widths costs bound h w) w
+
+-- r is where the visit of cluster h takes it, and what is known afterwards of the clusters
+pub record Goal (froms tos widths costs : List ℕ) (bound h : ℕ) (w : Work) (low high marks : List ℕ) (r : ℕ) : Type 0 where
+  pub is : r ≡ choiceAt froms tos widths costs bound h w
+  pub within : r < 16
+  pub known : Known froms tos (w .table) (w .sums .count) low high marks
 
 -- what the code says of the work w′ that came of w by at most so many moves
 pub record Done (w w′ : Work) (most : ℕ) (is : Work) : Type 0 where

@@ -1,11 +1,12 @@
 // A pass over the clusters of a rung: each goes where an allowed candidate gains.
 ghost use mathlib.Core.Bool.{true};
 ghost use mathlib.Core.Path.{_≡_};
-ghost use Prim.Native.Nat.{_<_, _≤_, _^_};
+ghost use Prim.Native.Nat.{ℕ, _<_, _≤_, _^_};
 ghost use lib.ListN.{length, getD};
 ghost use Rattle.folds.specs.Fold.{turns};
-ghost use Rattle.visit.specs.Visit.{Placed, Listed, Indexed};
-ghost use Rattle.pass.specs.Work.{betterOf, backOf, Chosen, workOf, worked, Done};
+ghost use Rattle.visit.specs.Visit.{Placed, Listed, Indexed, pullTo};
+ghost use Rattle.visit.specs.Known.{Known};
+ghost use Rattle.pass.specs.Work.{betterOf, backOf, Chosen, Idle, workOf, worked, Goal, Done};
 use part_sums::PartSums;
 
 // The sums, and the moves made so far.
@@ -79,7 +80,150 @@ fn choice(
     better(toward, sums, own, low, b, cost, bound)
 }
 
-// Visits cluster h, and moves it where an allowed candidate gains. The first pair of links is by the edges' starts, the second by their ends.
+// No back candidate of the cluster is allowed.
+fn back_barred(sums: PartSums, own: usize, high: usize, cost: u32, bound: u32) -> bool
+    requires { ⌜ own < 16 ⌝ }
+    ensures { λ r. ⌜ (r ≡ true → (f : ℕ → ℕ) → backOf f sums own cost bound high ≡ own) ⌝ }
+{
+    if high == 0 {
+        return true;
+    }
+    if own < high {
+        return true;
+    }
+    let allowed = sums.allows(own, high - 1, cost, bound);
+    !allowed
+}
+
+// No candidate of the cluster is allowed, so that it stays whatever its widths are.
+fn idle(sums: PartSums, own: usize, low: usize, high: usize, cost: u32, bound: u32) -> bool
+    requires { ⌜ (own < 16) × (sums .count ≤ 16) ⌝ }
+    ensures { λ r. ⌜ (r ≡ true → Idle sums own cost bound low high) ⌝ }
+{
+    let barred = back_barred(sums, own, high, cost, bound);
+    if !barred {
+        return false;
+    }
+    if low <= own {
+        return true;
+    }
+    if sums.count <= low {
+        return true;
+    }
+    let allowed = sums.allows(own, low, cost, bound);
+    !allowed
+}
+
+// Where cluster h goes, by the parts around it. Its widths are looked at where some candidate is allowed. The first pair of links is by the
+// edges' starts, the second by their ends; here and below.
+fn decide(
+    from: &[u16],
+    to: &[u16],
+    widths: &[u32],
+    table: &[u16; 512],
+    head: &[u16; 513],
+    next: &[u16; 1024],
+    head_in: &[u16; 513],
+    next_in: &[u16; 1024],
+    h: usize,
+    sums: PartSums,
+    own: usize,
+    low: usize,
+    high: usize,
+    cost: u32,
+    bound: u32,
+) -> usize
+    requires { ⌜ Listed (now from) (now to) (now widths) ⌝ }
+    requires { ⌜ Indexed (now from) (now to) (now head) (now next) (now «head_in») (now «next_in») ⌝ }
+    requires { ⌜ Placed (now table) ⌝ }
+    requires { ⌜ (h < 512) × (own < 16) × (sums .count ≤ 16) ⌝ }
+    ensures { λ r. ⌜ Chosen (pullTo (now (from .entry)) (now (to .entry)) (now (widths .entry)) (now (table .entry)) h) sums own cost bound low high r ⌝ }
+{
+    let still = idle(sums, own, low, high, cost, bound);
+    if still {
+        return own;
+    }
+    let mut toward = [0u32; 16];
+    visit::pulls(
+        from,
+        to,
+        widths,
+        table,
+        head,
+        next,
+        head_in,
+        next_in,
+        h,
+        &mut toward,
+    );
+    choice(&toward, sums, own, low, high, cost, bound)
+}
+
+// Where the visit of cluster h takes it. The parts around it are looked at where a candidate is open to it.
+fn goal(
+    from: &[u16],
+    to: &[u16],
+    widths: &[u32],
+    head: &[u16; 513],
+    next: &[u16; 1024],
+    head_in: &[u16; 513],
+    next_in: &[u16; 1024],
+    costs: &[u32; 512],
+    bound: u32,
+    h: usize,
+    table: &[u16; 512],
+    low: &mut [u16; 512],
+    high: &mut [u16; 512],
+    marks: &mut [u8; 512],
+    before: Progress,
+) -> usize
+    requires { ⌜ Listed (now from) (now to) (now widths) ⌝ }
+    requires { ⌜ Indexed (now from) (now to) (now head) (now next) (now «head_in») (now «next_in») ⌝ }
+    requires { ⌜ Placed (now table) ⌝ }
+    requires { ⌜ Known (now from) (now to) (now table) (before .sums .count) (now low) (now high) (now marks) ⌝ }
+    requires { ⌜ (h < 512) × (length (now costs) ≡ 512) × (before .sums .count ≤ 16) ⌝ }
+    ensures { λ r. ⌜ Goal (now (from .entry)) (now (to .entry)) (now (widths .entry)) (now (costs .entry)) bound h (workOf (now (table .entry)) before) (now (low .exit)) (now (high .exit)) (now (marks .exit)) r ⌝ }
+{
+    let own = visit::part_at(table, h);
+    if marks[h] == 0 {
+        return own;
+    }
+    let sums = before.sums;
+    let k = sums.count;
+    visit::refresh(
+        from,
+        to,
+        table,
+        head,
+        next,
+        head_in,
+        next_in,
+        h,
+        k,
+        low,
+        high,
+        marks,
+    );
+    decide(
+        from,
+        to,
+        widths,
+        table,
+        head,
+        next,
+        head_in,
+        next_in,
+        h,
+        sums,
+        own,
+        folds::wide(low[h]),
+        folds::wide(high[h]),
+        costs[h],
+        bound,
+    )
+}
+
+// Visits cluster h, and moves it where an allowed candidate gains.
 fn refine_cluster(
     from: &[u16],
     to: &[u16],
@@ -91,38 +235,45 @@ fn refine_cluster(
     costs: &[u32; 512],
     bound: u32,
     h: usize,
+    low: &mut [u16; 512],
+    high: &mut [u16; 512],
+    marks: &mut [u8; 512],
     table: &mut [u16; 512],
     before: Progress,
 ) -> Progress
     requires { ⌜ Listed (now from) (now to) (now widths) ⌝ }
     requires { ⌜ Indexed (now from) (now to) (now head) (now next) (now «head_in») (now «next_in») ⌝ }
     requires { ⌜ Placed (now table) ⌝ }
+    requires { ⌜ Known (now from) (now to) (now table) (before .sums .count) (now low) (now high) (now marks) ⌝ }
     requires { ⌜ (h < 512) × (length (now costs) ≡ 512) × (before .sums .count ≤ 16) × (before .moves < 2 ^ 33) ⌝ }
     ensures { λ r. ⌜ Done (workOf (now (table .entry)) before) (workOf (now (table .exit)) r) 1 (worked (now (from .entry)) (now (to .entry)) (now (widths .entry)) (now (costs .entry)) bound h (workOf (now (table .entry)) before)) ⌝ }
+    ensures { λ _. ⌜ Known (now (from .entry)) (now (to .entry)) (now (table .exit)) (before .sums .count) (now (low .exit)) (now (high .exit)) (now (marks .exit)) ⌝ }
 {
-    let sums = before.sums;
     let own = visit::part_at(table, h);
-    let mut toward = [0u32; 16];
-    let span = visit::visit(
+    let t = goal(
         from,
         to,
         widths,
-        table,
         head,
         next,
         head_in,
         next_in,
+        costs,
+        bound,
         h,
-        sums.count,
-        &mut toward,
+        table,
+        low,
+        high,
+        marks,
+        before,
     );
-    let cost = costs[h];
-    let t = choice(&toward, sums, own, span.low, span.high, cost, bound);
     if t == own {
         return before;
     }
     table[h] = t as u16;
-    let after = sums.moved(own, t, cost);
+    visit::rouse(from, to, head, next, head_in, next_in, h, marks);
+    let sums = before.sums;
+    let after = sums.moved(own, t, costs[h]);
     Progress {
         sums: after,
         moves: before.moves + 1,
@@ -141,14 +292,19 @@ pub fn pass(
     costs: &[u32; 512],
     bound: u32,
     g: usize,
+    low: &mut [u16; 512],
+    high: &mut [u16; 512],
+    marks: &mut [u8; 512],
     table: &mut [u16; 512],
     before: Progress,
 ) -> Progress
     requires { ⌜ Listed (now from) (now to) (now widths) ⌝ }
     requires { ⌜ Indexed (now from) (now to) (now head) (now next) (now «head_in») (now «next_in») ⌝ }
     requires { ⌜ Placed (now table) ⌝ }
+    requires { ⌜ Known (now from) (now to) (now table) (before .sums .count) (now low) (now high) (now marks) ⌝ }
     requires { ⌜ (g ≤ 512) × (length (now costs) ≡ 512) × (before .sums .count ≤ 16) × (before .moves < 2 ^ 32) ⌝ }
     ensures { λ r. ⌜ Done (workOf (now (table .entry)) before) (workOf (now (table .exit)) r) g (turns g (worked (now (from .entry)) (now (to .entry)) (now (widths .entry)) (now (costs .entry)) bound) (workOf (now (table .entry)) before)) ⌝ }
+    ensures { λ _. ⌜ Known (now (from .entry)) (now (to .entry)) (now (table .exit)) (before .sums .count) (now (low .exit)) (now (high .exit)) (now (marks .exit)) ⌝ }
 {
     let mut p = before;
     let mut h: usize = 0;
@@ -164,6 +320,9 @@ pub fn pass(
             costs,
             bound,
             h,
+            low,
+            high,
+            marks,
             table,
             p,
         );

@@ -118,9 +118,11 @@ module _ {G : Graph} {k bound : ℕ} {row parts : List ℕ} {moves : ℕ} (A : R
   pub ready-listed : {froms tos widths : List ℕ} → Coarse G row (clusters row) froms tos widths → Listed froms tos widths
   ready-listed C =
       record {
-        from = record { few = C .few; low = λ i l. omega (arith, C .from-in i l, ready-few) };
-        to = record { few = omega (arith, C .few, C .same-ends); low = λ i l. omega (arith, C .to-in i (omega (arith, C .same-ends)), ready-few) };
-        same-ends = C .same-ends;
+        ends = record {
+          from = record { few = C .few; low = λ i l. omega (arith, C .from-in i l, ready-few) };
+          to = record { few = omega (arith, C .few, C .same-ends); low = λ i l. omega (arith, C .to-in i (omega (arith, C .same-ends)), ready-few) };
+          same = C .same-ends;
+        };
         same-widths = C .same-widths;
         narrow = C .narrow;
       }

@@ -73,6 +73,11 @@ fn settle(
     let mut cluster_costs = [0u32; 512];
     counts::sum_costs(row, costs, &mut cluster_costs);
     let g = counts::cluster_count(row);
+    let mut low = [0u16; 512];
+    let mut high = [0u16; 512];
+    let mut marks = [0u8; 512];
+    let k = before.sums.count;
+    visit::survey(from, to, table, k, g, &mut low, &mut high, &mut marks);
     let mut p = before;
     loop {
         let moves = p.moves;
@@ -87,6 +92,9 @@ fn settle(
             &cluster_costs,
             bound,
             g,
+            &mut low,
+            &mut high,
+            &mut marks,
             table,
             p,
         );

@@ -1,4 +1,4 @@
--- What a visit of a cluster sees: the parts that its edges lead to, and their width to each.
+-- What the edges of a cluster say: the parts that they lead to, and their width to each.
 use Prim.Native.Nat.{ℕ, _+_, _≤_, _<_, min, max}
 use mathlib.Core.Path.{_≡_}
 use mathlib.Core.Bool.{_&&_}
@@ -19,11 +19,15 @@ pub record Named (ends : List ℕ) : Type 0 where
   pub few : length ends ≤ 1024
   pub low : (i : ℕ) → i < length ends → getD ends i 0 < 512
 
--- a rung's edges in lists: edge i goes from cluster froms[i] to cluster tos[i]
-pub record Listed (froms tos widths : List ℕ) : Type 0 where
+-- the two ends of each edge: edge i goes from cluster froms[i] to cluster tos[i]
+pub record Ended (froms tos : List ℕ) : Type 0 where
   pub from : Named froms
   pub to : Named tos
-  pub same-ends : length tos ≡ length froms
+  pub same : length tos ≡ length froms
+
+-- a rung's edges in lists
+pub record Listed (froms tos widths : List ℕ) : Type 0 where
+  pub ends : Ended froms tos
   pub same-widths : length widths ≡ length froms
   pub narrow : sumTo (length froms) (λ i. getD widths i 0) ≤ 67107840
 
@@ -58,16 +62,12 @@ pub record Room (toward : List ℕ) : Type 0 where
   pub long : length toward ≡ 16
   pub room : (u : ℕ) → u < 16 → getD toward u 0 ≤ 67107840
 
--- of the first m edges with the near end h: the lowest part at the far ends, or k; one more than the highest, or 0; the width to each part
-pub record Reached (near far widths table : List ℕ) (h k m : ℕ) (toward : List ℕ) (low high : ℕ) (toward′ : List ℕ) : Type 0 where
-  pub low-is : low ≡ turns m (lowerBy near far table h) k
-  pub high-is : high ≡ turns m (raiseBy near far table h) 0
+-- the sums after a walk: with the width to each part of the first m edges whose near end is h
+pub record Added (near far widths table : List ℕ) (h m : ℕ) (toward toward′ : List ℕ) : Type 0 where
   pub long : length toward′ ≡ 16
-  pub toward-is : (u : ℕ) → u < 16 → getD toward′ u 0 ≡ getD toward u 0 + sumTo m (widthTo near far widths table h u)
+  pub is : (u : ℕ) → u < 16 → getD toward′ u 0 ≡ getD toward u 0 + sumTo m (widthTo near far widths table h u)
 
--- all of that
-pub record Seen (froms tos widths table : List ℕ) (h k low high : ℕ) (toward : List ℕ) : Type 0 where
-  pub low-is : low ≡ lowNext froms tos table h k
-  pub high-is : high ≡ highBefore froms tos table h
+-- the width between h and each part, both ways
+pub record Pulled (froms tos widths table : List ℕ) (h : ℕ) (toward : List ℕ) : Type 0 where
   pub long : length toward ≡ 16
-  pub toward-is : (u : ℕ) → u < 16 → getD toward u 0 ≡ pullTo froms tos widths table h u
+  pub is : (u : ℕ) → u < 16 → getD toward u 0 ≡ pullTo froms tos widths table h u

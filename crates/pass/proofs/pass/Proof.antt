@@ -1,6 +1,7 @@
 -- h clusters have been visited.
 use Rattle.pass.proofs.Work.{done-none, done-turn}
 use Rattle.pass.specs.Work.{workOf, worked, Done}
+use Rattle.visit.specs.Known.{Known}
 use Rattle.folds.specs.Fold.{turns}
 use Prim.Native.Nat.{_≤_, _-_}
 use mathlib.Core.Path.{_≡_}
@@ -10,21 +11,23 @@ use Rattle.pass.proofs.pass.Statement.{statement}
 use Rattle.pass.proofs.pass.Tie as tie
 
 abbrev Inv-loop : tie.InvT-loop
-Inv-loop from to widths head next head-in next-in costs bound g table₀ p₀ h₀ table p h =
-    (h ≤ g) × Done (workOf table₀ p₀) (workOf table p) h (turns h (worked from to widths costs bound) (workOf table₀ p₀))
+Inv-loop from to widths head next head-in next-in costs bound g low₀ high₀ marks₀ table₀ p₀ h₀ low high marks table p h =
+    (h ≤ g) × Done (workOf table₀ p₀) (workOf table p) h (turns h (worked from to widths costs bound) (workOf table₀ p₀)) × Known from to table (p₀ .sums .count) low high marks
 
 abbrev μ-loop : tie.MeasureT-loop
-μ-loop from to widths head next head-in next-in costs bound g table₀ p₀ h₀ table p h = g - h
+μ-loop from to widths head next head-in next-in costs bound g low₀ high₀ marks₀ table₀ p₀ h₀ low high marks table p h = g - h
 
 pub pass-spec : {M : Type 1} → statement M
 pass-spec =
     tie.close
     (tie.spec Inv-loop μ-loop
-    (λ c. (omega arith, done-none _ _ (c .before .before .before .pre .1 .1 .0)))
-    (λ c κs. let p = c .before .before .before .before .before .before .pre in
-    let w = c .before .before .loop .inv in
-    (p .0, (p .1 .0, (w .1 .placed, (omega arith, p .1 .1 .1 .1, omega (arith, w .1 .counts, p .1 .1 .1 .2), omega (arith, w .1 .few, p .1 .1 .1 .3))))))
+    (λ c. let p = c .before .before .before .pre in (omega arith, done-none _ _ (p .1 .1 .0), p .1 .1 .1 .0))
+    (λ c κs. let p = c .before .before .before .before .before .before .before .before .before .pre in
+    let (l, d, k) = c .before .before .before .before .before .loop .inv in
+    let q = p .1 .1 .1 .1 in
+    (p .0, (p .1 .0, (d .placed, (rw (d .counts) k, (omega arith, q .1, omega (arith, d .counts, q .2), omega (arith, d .few, q .3)))))))
     (λ c. search needs)
     (λ c. search needs)
-    (λ c. (omega arith, done-turn _ (c .before .before .before .loop .inv .1) (c .refine-cluster .ensures)))
-    (λ c. let w = c .before .loop .inv in let q : c .before .loop .h ≡ c .before .before .before .before .before .args .g = omega arith in rw q at (w .1)))
+    (λ c. let (l, d, k) = c .before .before .before .before .before .before .loop .inv in
+    let r = c .refine-cluster .ensures in (omega arith, done-turn _ d (r .0), rw (d .counts) at (r .1)))
+    (λ c. let w = c .before .loop .inv in let q : c .before .loop .h ≡ c .before .before .before .before .before .args .g = omega arith in (rw q at (w .1), w .2)))

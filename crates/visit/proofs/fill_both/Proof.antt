@@ -20,7 +20,7 @@ fill-both-spec =
     (tie.spec Inv-loop μ-loop
     (λ c. search needs)
     (λ c. search needs)
-    (λ c. let p = c .before .before .before .before .pre in (refl, omega arith, made-none _ _ _ (p .1 .1 .1), made-none _ _ _ (p .1 .1 .2)))
+    (λ c. let p = c .before .before .before .before .pre in (refl, omega arith, made-none _ _ _ (p .1 .0), made-none _ _ _ (p .1 .1)))
     (λ c. search needs)
     (λ c κs. search needs)
     (λ c. search needs)
@@ -30,7 +30,7 @@ fill-both-spec =
     (λ c. search needs)
     (λ c. search needs)
     (λ c. search needs)
-    (λ c κs. let p = c .before .before .before .before .before .before .before .before .pre in (p .1 .0, omega (arith, p .1 .1 .0)))
+    (λ c κs. let p = c .before .before .before .before .before .before .before .before .pre in (p .0 .to, omega (arith, p .0 .same)))
     (λ c. search needs)
     (λ c. search needs)
     (λ c. search needs)
@@ -45,7 +45,7 @@ fill-both-spec =
     let b = c .before .end-at2 .ensures in (
       refl,
       omega arith,
-      made-down _ _ (l .j) _ (l .head) (l .next) (sym (a .is)) (omega (arith, a .low)) (omega arith) (l .inv .1) (p .0 .few) (l .inv .2),
-      made-down _ _ (l .j) _ (l .head-in) (l .next-in) (sym (b .is)) (omega (arith, b .low)) (omega arith) (l .inv .1) (p .0 .few) (l .inv .3),
+      made-down _ _ (l .j) _ (l .head) (l .next) (sym (a .is)) (omega (arith, a .low)) (omega arith) (l .inv .1) (p .0 .from .few) (l .inv .2),
+      made-down _ _ (l .j) _ (l .head-in) (l .next-in) (sym (b .is)) (omega (arith, b .low)) (omega arith) (l .inv .1) (p .0 .from .few) (l .inv .3),
     ))
-    (λ c. let l = c .before .loop in let p = c .before .before .before .before .before .before .pre in record { out = made-end _ _ (omega arith) (l .inv .2); into = rw (p .1 .1 .0) (made-end _ _ (omega arith) (l .inv .3)) }))
+    (λ c. let l = c .before .loop in let p = c .before .before .before .before .before .before .pre in record { out = made-end _ _ (omega arith) (l .inv .2); into = rw (p .0 .same) (made-end _ _ (omega arith) (l .inv .3)) }))
