@@ -139,13 +139,6 @@ pub any-zero : (p : ℕ → Bool) → anyTo 0 p ≡ false
 unfolding anyTo firstTo
 any-zero p = refl
 
--- numbers that fail do not count
-pub any-skip : (p : ℕ → Bool) (j h : ℕ) → j ≤ h → ((i : ℕ) → j ≤ i → i < h → p i ≡ false) → anyTo h p ≡ anyTo j p
-any-skip p j h l z =
-    same-test _ _
-    (λ t. let (k, lk, e) = any-e h p t in by (ltb k j) (λ q. any-i j p k (ltb-true k j q) e) (λ q. absurd (no-bool (sym (z k (ltb-false k j q) lk) ∙ e))))
-    (λ t. let (k, lk, e) = any-e j p t in any-i h p k (omega arith) e)
-
 pub all-i : (n : ℕ) (p : ℕ → Bool) → ((k : ℕ) → k < n → p k ≡ true) → allTo n p ≡ true
 unfolding allTo
 all-i n p t = eq-eqb _ _ (firstTo-all n (λ k. not (p k)) (λ k l. rw (t k l)))

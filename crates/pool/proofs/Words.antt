@@ -8,13 +8,17 @@ use lib.Arith.{digits-div, digits-mod}
 use lib.Bits.{bitOr, bitXor, or-step, xor-step, or-zero-r, xor-zero-r, differ}
 use lib.Count.{trailingZeros, under}
 use Rattle.folds.specs.Fold.{when, firstTo}
-use Rattle.folds.proofs.Cases.{by, either, mark-no}
+use Rattle.folds.proofs.Cases.{by, either, mark-yes, mark-no}
 use Rattle.folds.proofs.Searches.{firstTo-zero, firstTo-found, firstTo-le, firstTo-hit, firstTo-below, firstTo-none, firstTo-all}
 use Rattle.pool.specs.Pool.{word}
 
 when-low : (t : Bool) → when t 1 < 2
 when-low true = omega arith
 when-low false = omega arith
+
+when-one : (t u : Bool) → when t 1 ≡ when u 1 → t ≡ u
+when-one true u e = sym (mark-yes e (λ z. omega arith))
+when-one false u e = sym (mark-no e refl)
 
 word-half : (k : ℕ) (p : ℕ → Bool) → word (suc k) p / 2 ≡ word k (λ i. p (suc i))
 unfolding word
@@ -37,11 +41,15 @@ unfolding word
 word-none zero p h = refl
 word-none (suc k) p h = join (word-none k _ (λ i l. h (suc i) (suc-le-suc l))) (ap (λ (t : Bool). when t 1) (h 0 (omega arith)))
 
+-- a word tells its bits
+pub word-bit : (k : ℕ) (p q : ℕ → Bool) → word k p ≡ word k q → (i : ℕ) → i < k → p i ≡ q i
+word-bit zero p q e i l = absurd (not-suc-le-zero l)
+word-bit (suc k) p q e zero l = when-one (p 0) (q 0) (sym (word-odd k p) ∙ ap (λ (x : ℕ). x % 2) e ∙ word-odd k q)
+word-bit (suc k) p q e (suc i) l =
+    word-bit k (λ x. p (suc x)) (λ x. q (suc x)) (sym (word-half k p) ∙ ap (λ (x : ℕ). x / 2) e ∙ word-half k q) i (le-of-suc-le-suc l)
+
 pub none-word : (k : ℕ) (p : ℕ → Bool) → word k p ≡ 0 → (i : ℕ) → i < k → p i ≡ false
-unfolding word
-none-word zero p e i l = absurd (not-suc-le-zero l)
-none-word (suc k) p e zero l = mark-no refl (omega arith)
-none-word (suc k) p e (suc i) l = none-word k (λ x. p (suc x)) (omega arith) i (le-of-suc-le-suc l)
+none-word k p e = word-bit k p (λ _. false) (e ∙ sym (word-none k (λ _. false) (λ _ _. refl)))
 
 pub some-first : (k : ℕ) (p : ℕ → Bool) → (word k p ≡ 0 → ⊥) → firstTo k p < k
 some-first k p n = either (eq-or-lt-of-le (firstTo-le k p)) (λ e. absurd (n (word-none k p (firstTo-none k p e)))) (λ l. l)

@@ -5,7 +5,8 @@ ghost use lib.ListN.{length, getD};
 ghost use lib.Count.{trailingZeros};
 ghost use Rattle.pool.specs.Pool.{putOf, takenOf, lowestOf};
 
-fn bit(i: usize) -> u64
+// The word that has bit i alone.
+pub fn bit(i: usize) -> u64
     requires { ⌜ i < 64 ⌝ }
     ensures { λ r. ⌜ r ≡ 2 ^ i ⌝ }
 {

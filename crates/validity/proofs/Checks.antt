@@ -8,12 +8,12 @@ use native.Mathlib.Omega.{arith}
 use lib.Dec.{eqb, ltb, leb}
 use lib.ListN.{length, getD, take, length-append}
 use borrow.Author.Tests.{eqb-true, ltb-false, leb-false, lt-ltb, le-ltb}
-use Rattle.folds.specs.Fold.{firstTo, over, Read}
+use Rattle.folds.specs.Fold.{firstTo, over}
 use Rattle.folds.proofs.Cases.{no-bool, not-no}
 use Rattle.folds.proofs.Searches.{firstTo-le, firstTo-none}
 use Rattle.folds.proofs.Slices.{take-over}
 use Rattle.folds.proofs.Lists.{length-listTo}
-use Rattle.graph.specs.Graph.{identity, via, arcs, Inside}
+use Rattle.graph.specs.Graph.{identity, arcs, Inside}
 use Rattle.graph.specs.Links.{Joins}
 use Rattle.graph.proofs.Edges.{identity-at}
 use Rattle.topology.specs.Reach.{lowestOnCycle}
@@ -67,9 +67,6 @@ module _ {row starts ends : List ℕ} (F : Fits row starts ends) where
   row-at : (v : ℕ) → v < length row → getD row v 0 ≡ v
   row-at v h = ap (λ (l : List ℕ). getD l v 0) (F .is) ∙ identity-at (length row) v h
 
-  pub via-start : (j : ℕ) → j < length starts → via row starts j ≡ getD starts j 0
-  via-start j h = row-at (getD starts j 0) (F .start-in j h)
-
   pub fit-joins : Joins row starts ends
   fit-joins =
       record {
@@ -83,13 +80,6 @@ module _ {row starts ends : List ℕ} (F : Fits row starts ends) where
 
   pub fit-inside : Inside (arcs row starts ends) (length row)
   fit-inside j h = (omega (arith, row-at (getD starts j 0) (F .start-in j h), F .start-in j h), omega (arith, row-at (getD ends j 0) (F .end-in j h), F .end-in j h))
-
--- an end is a vertex, so it fits an array of 512
-pub end-low : {row starts ends : List ℕ} {j b x : ℕ} → Fits row starts ends → j < length starts → Read ends j b x → x < 512
-end-low F l r = omega (arith, r .is, F .end-in _ l, F .few)
-
-pub end-read : {row starts ends : List ℕ} {j : ℕ} → Fits row starts ends → j < length starts → j < length ends
-end-read F l = omega (arith, F .same)
 
 pub cycle-row : {row starts ends : List ℕ} {v : ℕ} → Fits row starts ends → v ≡ lowestOnCycle (arcs row starts ends) (length row) → v ≡ lowestOnCycle (arcs (identity (length row)) starts ends) (length row)
 cycle-row {row} {starts} {ends} F e = e ∙ ap (λ (l : List ℕ). lowestOnCycle (arcs l starts ends) (length row)) (F .is)

@@ -1,141 +1,123 @@
--- Marks of repeated edges: one start after the other, each along its edges.
-use Prim.Native.Nat.{ℕ, _+_, _≤_, _<_}
+-- The bits of the edges passed: an edge repeats an earlier one exactly where its bit is set already.
+use Prim.Native.Nat.{ℕ, _+_, _*_, _/_, _%_, _^_, _≤_, _<_}
 use mathlib.Core.Path.{_≡_, refl, sym, ap, _∙_}
-use mathlib.Core.Bool.{Bool, true, false, _&&_, _||_}
+use mathlib.Core.Bool.{Bool, true, false, _&&_, or-false}
 use mathlib.Core.List.{List}
+use native.Mathlib.Nat.{div-add-mod', div-lt-iff-lt-mul, mod-lt, suc-mul, mul-le-mul-right}
 use native.Mathlib.Omega.{arith}
-use lib.Dec.{eqb, ltb}
-use lib.ListN.{length, getD, set, length-set}
+use lib.Arith.{digits-div, digits-mod}
+use lib.Bits.{bitOr}
+use lib.Dec.{eqb}
+use lib.ListN.{length, getD, set}
 use lib.Seq.{getD-set-same, getD-set-other}
-use borrow.Author.Tests.{eq-eqb, ne-eqb, lt-ltb, le-ltb, ltb-true, ltb-false}
-use Rattle.folds.specs.Fold.{when, anyTo, zeros}
-use Rattle.folds.proofs.Cases.{by, either, eq-or-ne, and-false, same-test}
-use Rattle.folds.proofs.Searches.{any-i, any-step, any-zero, any-skip}
-use Rattle.folds.proofs.Lists.{set-at-most, getD-zeros, length-zeros}
-use Rattle.graph.specs.Graph.{via}
-use Rattle.graph.specs.Links.{Linked, Hop}
-use Rattle.graph.proofs.Links.{On}
+use borrow.Author.Tests.{eqb-true, eq-eqb, ne-eqb}
+use Rattle.folds.specs.Fold.{anyTo, Read}
+use Rattle.folds.proofs.Cases.{by, either, eq-or-ne, both, both-i, and-false, same-test}
+use Rattle.folds.proofs.Searches.{any-i, any-ext, any-step, any-zero}
+use Rattle.pool.specs.Pool.{word}
+use Rattle.pool.proofs.Words.{word-ext, word-none, word-bit, word-or}
 use Rattle.validity.specs.Check.{repeats}
-use Rattle.validity.specs.Repeat.{goes, done, Marked}
 use Rattle.validity.specs.Fit.{Fits}
-use Rattle.validity.proofs.Checks.{via-start}
+use Rattle.validity.specs.Repeat.{Roomy}
 
--- the tests of done, by where the edge starts
-module _ (starts : List ℕ) (s i : ℕ) where
-  done-other : (j h : ℕ) → (getD starts i 0 ≡ s → ⊥) → done starts s j i ≡ done starts s h i
-  unfolding done
-  done-other j h n = rw (ne-eqb (getD starts i 0) s n)
+-- the word of edge j
+unfoldable pub wordOf : List ℕ → List ℕ → ℕ → ℕ → ℕ
+wordOf starts ends stride j = getD starts j 0 * stride + getD ends j 0 / 64
 
-  done-same : (j h : ℕ) → ltb i j ≡ ltb i h → done starts s j i ≡ done starts s h i
-  unfolding done
-  done-same j h e = rw e
+-- edge j is bit i of word w
+unfoldable pub isBit : List ℕ → List ℕ → ℕ → ℕ → ℕ → ℕ → Bool
+isBit starts ends stride w i j = eqb (wordOf starts ends stride j) w && eqb (getD ends j 0 % 64) i
 
-  done-own : (j : ℕ) → getD starts i 0 ≡ s → i < j → done starts s j i ≡ true
-  unfolding done
-  done-own j e l = rw (e, le-ltb s s (omega arith), eq-eqb s s refl) (lt-ltb i j l)
+-- the bits of the first j edges are set, and no others
+pub record BitsSet (starts ends : List ℕ) (stride j : ℕ) (words : List ℕ) : Type 0 where
+  pub is : (w : ℕ) → getD words w 0 ≡ word 64 (λ i. anyTo j (isBit starts ends stride w i))
 
-  done-all : getD starts i 0 < s → done starts s 0 i ≡ true
-  unfolding done
-  done-all l = rw (lt-ltb (getD starts i 0) s l)
+high-bits : {s x : ℕ} → x < s * 64 → x / 64 < s
+high-bits l = div-lt-iff-lt-mul {k = 64} (omega arith) .1 l
 
-  done-none : s ≡ 0 → done starts s 0 i ≡ false
-  unfolding done
-  done-none e = rw (e, le-ltb (getD starts i 0) 0 (omega arith), le-ltb i 0 (omega arith)) (and-false (eqb (getD starts i 0) 0))
+-- word and bit tell the start and the end
+same-place : (s a x b y : ℕ) → x < s * 64 → y < s * 64 → a * s + x / 64 ≡ b * s + y / 64 → x % 64 ≡ y % 64 → (a ≡ b) × (x ≡ y)
+same-place s a x b y lx ly e h =
+    let q : x / 64 ≡ y / 64 = sym (digits-mod a (high-bits lx)) ∙ ap (λ (z : ℕ). z % s) e ∙ digits-mod b (high-bits ly) in
+    (sym (digits-div a (high-bits lx)) ∙ ap (λ (z : ℕ). z / s) e ∙ digits-div b (high-bits ly), sym (div-add-mod' x 64) ∙ (rw (q, h) (div-add-mod' y 64)))
 
-  -- all edges of s: those of starts below s + 1
-  done-next : (m : ℕ) → i < m → done starts (s + 1) 0 i ≡ done starts s m i
-  unfolding done
-  done-next m l =
-      by (ltb (getD starts i 0) s)
-      (λ t. rw (t, lt-ltb (getD starts i 0) (s + 1) (omega (arith, ltb-true (getD starts i 0) s t))))
-      (λ f.
-      either (eq-or-ne (getD starts i 0) s)
-      (λ e. rw (f, eq-eqb (getD starts i 0) s e, lt-ltb i m l, lt-ltb (getD starts i 0) (s + 1) (omega arith)))
-      (λ n. rw (f, ne-eqb (getD starts i 0) s n, le-ltb (getD starts i 0) (s + 1) (omega (arith, ltb-false (getD starts i 0) s f)), le-ltb i 0 (omega arith)) (and-false (eqb (getD starts i 0) (s + 1)))))
+same-tests : (s a x b y : ℕ) → x < s * 64 → y < s * 64 → (eqb (a * s + x / 64) (b * s + y / 64) && eqb (x % 64) (y % 64)) ≡ (eqb a b && eqb x y)
+same-tests s a x b y lx ly =
+    same-test _ _
+    (λ t. let (p, q) = both (eqb (a * s + x / 64) (b * s + y / 64)) _ t in
+    let (e, h) = same-place s a x b y lx ly (eqb-true _ _ p) (eqb-true _ _ q) in both-i (eqb a b) _ (eq-eqb a b e) (eq-eqb x y h))
+    (λ t. let (p, q) = both (eqb a b) _ t in
+    rw (eqb-true a b p, eqb-true x y q, eq-eqb (b * s + y / 64) (b * s + y / 64) refl) (eq-eqb (y % 64) (y % 64) refl))
 
-module _ {starts ends : List ℕ} {s : ℕ} where
-  -- edges of other starts do not count
-  marked-skip : {stamps again : List ℕ} (j h : ℕ) → Marked starts ends s j stamps again → j ≤ h
-      → ((i : ℕ) → j ≤ i → i < h → getD starts i 0 ≡ s → ⊥) → Marked starts ends s h stamps again
-  unfolding goes
-  marked-skip j h M l none =
-      record {
-        tall = M .tall;
-        long = M .long;
-        low = M .low;
-        stamped = λ x lx. M .stamped x lx ∙ sym (any-skip (goes starts ends s x) j h l (λ i a b. rw (ne-eqb (getD starts i 0) s (none i a b))));
-        is = λ i li. M .is i li ∙ ap (λ (t : Bool). when (t && repeats starts ends i) 1) (either (eq-or-ne (getD starts i 0) s)
-            (λ e. done-same starts s i j h (same-test _ _
-            (λ t. lt-ltb i h (omega (arith, ltb-true i j t)))
-            (λ t. by (ltb i j) (λ u. u) (λ u. absurd (none i (ltb-false i j u) (ltb-true i h t) e)))))
-            (λ n. done-other starts s i j h n));
-      }
+module _ (starts ends : List ℕ) (stride : ℕ) where
+  own-bit : (j : ℕ) → isBit starts ends stride (wordOf starts ends stride j) (getD ends j 0 % 64) j ≡ true
+  unfolding isBit
+  own-bit j = both-i _ _ (eq-eqb (wordOf starts ends stride j) _ refl) (eq-eqb (getD ends j 0 % 64) _ refl)
 
-  -- edge j of s, to b
-  marked-step : {stamps again : List ℕ} (j b : ℕ) → Marked starts ends s j stamps again → j < 1024 → getD starts j 0 ≡ s → getD ends j 0 ≡ b → b < 512
-      → Marked starts ends s (j + 1) (set stamps b (s + 1)) (set again j (when (eqb (getD stamps b 0) (s + 1)) 1))
-  unfolding goes repeats
-  marked-step {stamps} {again} j b M lj es eb lb =
-      record {
-        tall = length-set stamps b (s + 1) ∙ M .tall;
-        long = length-set again j _ ∙ M .long;
-        low = set-at-most stamps b (s + 1) (s + 1) (s + 1) (omega arith) (omega arith) (M .low);
-        stamped = λ x lx. either (eq-or-ne x b)
-            (λ e. rw (e, getD-set-same stamps b (s + 1) 0 (omega (arith, M .tall)), eq-eqb (s + 1) (s + 1) refl)
-            (sym (any-i (j + 1) (goes starts ends s b) j (omega arith) (rw (eq-eqb (getD starts j 0) s es) (eq-eqb (getD ends j 0) b eb)))))
-            (λ n. rw (getD-set-other stamps b x (s + 1) 0 n, any-step j (goes starts ends s x)) (M .stamped x lx ∙ miss x n));
-        is = λ i li. either (eq-or-ne i j)
-            (λ e. rw (e, getD-set-same again j (when (eqb (getD stamps b 0) (s + 1)) 1) 0 (omega (arith, M .long)), done-own starts s j (j + 1) es (omega arith), M .stamped b lb)
-            (rw (← es, ← eb)))
-            (λ n. rw (getD-set-other again j i (when (eqb (getD stamps b 0) (s + 1)) 1) 0 n) (M .is i li ∙ ap (λ (t : Bool). when (t && repeats starts ends i) 1)
-            (done-same starts s i j (j + 1) (same-test _ _ (λ t. lt-ltb i (j + 1) (omega (arith, ltb-true i j t))) (λ t. lt-ltb i j (omega (arith, ltb-true i (j + 1) t)))))));
-      }
-    where
-      miss : (x : ℕ) → (x ≡ b → ⊥) → anyTo j (goes starts ends s x) ≡ (anyTo j (goes starts ends s x) || goes starts ends s x j)
-      miss x n = rw (eq-eqb (getD starts j 0) s es, ne-eqb (getD ends j 0) x (λ q. n (sym q ∙ eb))) (off (anyTo j (goes starts ends s x)))
-        where
-          off : (t : Bool) → t ≡ (t || false)
-          off true = refl
-          off false = refl
+  other-word : (j w i : ℕ) → (w ≡ wordOf starts ends stride j → ⊥) → isBit starts ends stride w i j ≡ false
+  unfolding isBit
+  other-word j w i n = rw (ne-eqb (wordOf starts ends stride j) w (λ e. n (sym e)))
 
-  -- the next start
-  pub marked-next : {stamps again : List ℕ} → Marked starts ends s (length starts) stamps again → Marked starts ends (s + 1) 0 stamps again
-  marked-next {stamps} M =
-      record {
-        tall = M .tall;
-        long = M .long;
-        low = λ x. omega (arith, M .low x);
-        stamped = λ x lx. ne-eqb (getD stamps x 0) (s + 1 + 1) (λ e. omega (arith, M .low x)) ∙ sym (any-zero (goes starts ends (s + 1) x));
-        is = λ i li. M .is i li ∙ ap (λ (t : Bool). when (t && repeats starts ends i) 1) (sym (done-next starts s i (length starts) li));
-      }
+  other-bit : (j w i : ℕ) → (i ≡ getD ends j 0 % 64 → ⊥) → isBit starts ends stride w i j ≡ false
+  unfolding isBit
+  other-bit j w i n = rw (ne-eqb (getD ends j 0 % 64) i (λ e. n (sym e))) (and-false (eqb (wordOf starts ends stride j) w))
 
-  pub marked-end : {stamps again : List ℕ} → Marked starts ends s 0 stamps again → ((i : ℕ) → i < length starts → getD starts i 0 < s)
-      → (i : ℕ) → i < length starts → getD again i 0 ≡ when (repeats starts ends i) 1
-  marked-end M all i li = M .is i li ∙ rw (done-all starts s i (all i li))
+  any-more : (j w i : ℕ) → isBit starts ends stride w i j ≡ false → anyTo (j + 1) (isBit starts ends stride w i) ≡ anyTo j (isBit starts ends stride w i)
+  any-more j w i n = any-step j _ ∙ rw n (or-false _)
 
-pub marked-none : (starts ends again : List ℕ) → length again ≡ 1024 → ((i : ℕ) → getD again i 0 ≡ 0) → Marked starts ends 0 0 (zeros 512) again
-marked-none starts ends again e z =
+  pub bits-none : (words : List ℕ) → ((w : ℕ) → getD words w 0 ≡ 0) → BitsSet starts ends stride 0 words
+  bits-none words z = record { is = λ w. z w ∙ sym (word-none 64 _ (λ i _. any-zero _)) }
+
+  -- edge j, in the word w with the bit of x
+  module _ {words : List ℕ} {j w x : ℕ} (S : BitsSet starts ends stride j words) (at : w ≡ wordOf starts ends stride j) (bit : x ≡ 2 ^ (getD ends j 0 % 64)) where
+    low : getD ends j 0 % 64 < 64
+    low = mod-lt (getD ends j 0) (omega arith)
+
+    own : anyTo (j + 1) (isBit starts ends stride w (getD ends j 0 % 64)) ≡ true
+    own = any-i (j + 1) _ j (omega arith) (rw at (own-bit j))
+
+    set-bit : bitOr (getD words w 0) x ≡ word 64 (λ i. anyTo (j + 1) (isBit starts ends stride w i))
+    set-bit = rw (bit, S .is w) (word-or 64 (getD ends j 0 % 64) _ _ low own (λ i _ n. any-more j w i (other-bit j w i n)))
+
+    pub bits-turn : w < length words → BitsSet starts ends stride (j + 1) (set words w (bitOr (getD words w 0) x))
+    bits-turn l =
+        record {
+          is = λ v. either (eq-or-ne v w)
+              (λ e. rw e (getD-set-same words w _ 0 l ∙ set-bit))
+              (λ n. getD-set-other words w v _ 0 n ∙ S .is v ∙ word-ext 64 _ _ (λ i _. sym (any-more j v i (other-word j v i (λ e. n (e ∙ sym at))))));
+        }
+
+    module _ {rooms : ℕ} (R : Roomy starts ends stride rooms) (l : j < length starts) where
+      was-set : anyTo j (isBit starts ends stride w (getD ends j 0 % 64)) ≡ repeats starts ends j
+      unfolding repeats isBit wordOf
+      was-set = any-ext j _ _ (λ i h. rw at (same-tests stride _ _ _ _ (R .end-in i (omega arith)) (R .end-in j l)))
+
+      pub is-repeat : getD words w 0 ≡ bitOr (getD words w 0) x → repeats starts ends j ≡ true
+      is-repeat e = sym was-set ∙ word-bit 64 _ _ (sym (S .is w) ∙ e ∙ set-bit) (getD ends j 0 % 64) low ∙ own
+
+      pub no-repeat : (getD words w 0 ≡ bitOr (getD words w 0) x → ⊥) → repeats starts ends j ≡ false
+      no-repeat n =
+          by (repeats starts ends j)
+          (λ t. absurd (n (S .is w ∙ sym (word-or 64 (getD ends j 0 % 64) _ _ low (was-set ∙ t) (λ _ _ _. refl)) ∙ rw (bit, S .is w))))
+          (λ f. f)
+
+-- what was read of edge j, and its word and bit
+module _ {starts ends : List ℕ} {j a b : ℕ} (stride : ℕ) (from : Read starts j 65536 a) (to : Read ends j 65536 b) where
+  pub word-is : a * stride + b / 64 ≡ wordOf starts ends stride j
+  unfolding wordOf
+  word-is = rw (from .is, to .is)
+
+  pub word-in : {words : ℕ} → Roomy starts ends stride words → j < length starts → a * stride + b / 64 < words
+  word-in R l = rw (from .is, to .is) (omega (arith, R .start-in j l, high-bits (R .end-in j l)))
+
+pub bit-is : {ends : List ℕ} {j b x : ℕ} → Read ends j 65536 b → x ≡ 2 ^ (b % 64) → x ≡ 2 ^ (getD ends j 0 % 64)
+bit-is to e = rw (to .is) at e
+
+-- as many words for each vertex as have a bit for each
+pub fits-roomy : {row starts ends : List ℕ} (stride : ℕ) → Fits row starts ends → length row ≤ stride * 64 → Roomy starts ends stride (stride * 64 * stride)
+fits-roomy {starts = starts} stride F n =
     record {
-      tall = length-zeros 512;
-      long = e;
-      low = λ x. omega (arith, getD-zeros 512 x);
-      stamped = λ x lx. rw (getD-zeros 512 x, any-zero (goes starts ends 0 x));
-      is = λ i li. z i ∙ rw (done-none starts 0 i refl);
+      same = F .same;
+      start-in = λ j l. rw (← suc-mul (getD starts j 0) stride) (mul-le-mul-right stride (omega (arith, F .start-in j l)));
+      end-in = λ j l. omega (arith, F .end-in j l);
     }
-
--- along the links of s
-module _ {row starts ends : List ℕ} (F : Fits row starts ends) where
-  key : (s i : ℕ) → i < length starts → getD starts i 0 ≡ s → via row starts i ≡ s
-  key s i l e = via-start F i l ∙ e
-
-  module _ {head next stamps again : List ℕ} {s : ℕ} (L : Linked (via row starts) (length starts) head next) where
-    pub marked-on : s < 512 → Marked starts ends s 0 stamps again → Marked starts ends s (getD head s 0) stamps again
-    marked-on ls M = marked-skip 0 (getD head s 0) M (omega arith) (λ i a b e. L .heads s ls .skips i a b (key s i (omega (arith, L .heads s ls .within)) e))
-
-    pub marked-turn : (j b : ℕ) → On (via row starts) (length starts) s j → j < length starts → b ≡ getD ends j 0
-        → Marked starts ends s j stamps again → Marked starts ends s (getD next j 0) (set stamps b (s + 1)) (set again j (when (eqb (getD stamps b 0) (s + 1)) 1))
-    marked-turn j b o l e M =
-        let h : Hop (via row starts) (length starts) s (j + 1) (getD next j 0) = rw (o .at l) at (L .nexts j l) in
-        marked-skip (j + 1) (getD next j 0)
-        (marked-step j b M (omega (arith, F .many)) (sym (via-start F j l) ∙ o .at l) (sym e) (omega (arith, F .end-in j l, F .few))) (h .past)
-        (λ i a c q. h .skips i a c (key s i (omega (arith, h .within)) q))

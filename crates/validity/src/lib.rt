@@ -1,13 +1,11 @@
 // The causes of refusal and checks 1 to 8 of document 01.
 ghost use mathlib.Core.Path.{_≡_};
-ghost use Prim.Native.Nat.{ℕ, _+_, _<_, _≤_};
+ghost use Prim.Native.Nat.{ℕ, _<_, _≤_};
 ghost use lib.ListN.{length, getD};
-ghost use lib.Dec.{eqb};
-ghost use Rattle.folds.specs.Fold.{firstTo, over, when};
-ghost use Rattle.graph.specs.Graph.{graphOf, identity, via};
-ghost use Rattle.graph.specs.Links.{Linked};
+ghost use Rattle.folds.specs.Fold.{firstTo, over};
+ghost use Rattle.graph.specs.Graph.{graphOf, identity};
 ghost use Rattle.validity.specs.Cause.{numberOf};
-ghost use Rattle.validity.specs.Repeat.{Marked, tried};
+ghost use Rattle.validity.specs.Repeat.{Roomy, tried};
 ghost use Rattle.validity.specs.Fit.{Fits, OrderLeft};
 ghost use Rattle.validity.specs.Check.{badVertices, badParts, badEdges, badCost, badEnds, repeats, cyclesFrom, repeatsFrom, endsFrom, costsFrom, checked};
 
@@ -170,76 +168,47 @@ fn fill_identity(row: &mut [u16; 512], n: usize)
     }
 }
 
-fn mark(stamp: u16, now: u16) -> u8
-    ensures { λ r. ⌜ r ≡ when (eqb stamp now) 1 ⌝ }
-{
-    if stamp == now { 1 } else { 0 }
-}
-
-// Marks the edges of s that repeat an earlier one: those that go to a vertex that is stamped already.
-fn mark_repeats(
-    row: &[u16],
-    starts: &[u16],
-    ends: &[u16],
-    head: &[u16; 513],
-    next: &[u16; 1024],
-    s: usize,
-    stamps: &mut [u16; 512],
-    again: &mut [u8; 1024],
-)
-    requires { ⌜ Fits (now row) (now starts) (now ends) ⌝ }
-    requires { ⌜ Linked (via (now row) (now starts)) (length (now starts)) (now head) (now next) ⌝ }
-    requires { ⌜ s < 512 ⌝ }
-    requires { ⌜ Marked (now starts) (now ends) s 0 (now stamps) (now again) ⌝ }
-    ensures { λ _. ⌜ Marked (now (starts .entry)) (now (ends .entry)) s (length (now (starts .entry))) (now (stamps .exit)) (now (again .exit)) ⌝ }
-{
-    let m = starts.len();
-    let stamp = (s + 1) as u16;
-    let mut j = folds::wide(head[s]);
-    while j < m {
-        let b = folds::at16(ends, j);
-        again[j] = mark(stamps[b], stamp);
-        stamps[b] = stamp;
-        j = folds::wide(next[j]);
-    }
-}
-
-// Marks every edge that repeats an earlier one.
-fn mark_all(row: &[u16], starts: &[u16], ends: &[u16], again: &mut [u8; 1024])
-    requires { ⌜ Fits (now row) (now starts) (now ends) ⌝ }
-    requires { ⌜ length (now again) ≡ 1024 ⌝ }
-    requires { ⌜ ((i : ℕ) → getD (now again) i 0 ≡ 0) ⌝ }
-    ensures { λ _. ⌜ ((i : ℕ) → i < length (now (starts .entry)) → getD (now (again .exit)) i 0 ≡ when (repeats (now (starts .entry)) (now (ends .entry)) i) 1) × (length (now (again .exit)) ≡ 1024) ⌝ }
-{
-    let mut head = [0u16; 513];
-    let mut next = [0u16; 1024];
-    let mut stamps = [0u16; 512];
-    graph::fill(row, starts, &mut head, &mut next);
-    let mut s: usize = 0;
-    while s < row.len() {
-        mark_repeats(row, starts, ends, &head, &next, s, &mut stamps, again);
-        s += 1;
-    }
-}
-
-// Tries the edges from the lowest up as repeats of earlier ones, to the first find.
-pub fn find_repeat(row: &[u16], starts: &[u16], ends: &[u16]) -> Repeated
-    requires { ⌜ Fits (now row) (now starts) (now ends) ⌝ }
+// Tries the edges from the lowest up, to the first whose bit is set already: edge j has bit ends[j] % 64 of word
+// starts[j] * stride + ends[j] / 64.
+fn first_repeat(starts: &[u16], ends: &[u16], stride: usize, seen: &mut [u64]) -> Repeated
+    requires { ⌜ Roomy (now starts) (now ends) stride (length (now seen)) ⌝ }
+    requires { ⌜ ((w : ℕ) → getD (now seen) w 0 ≡ 0) ⌝ }
     ensures { λ r. ⌜ (r .place ≡ firstTo (length (now (starts .entry))) (repeats (now (starts .entry)) (now (ends .entry)))) × (r .tried ≡ tried (r .place) (length (now (starts .entry)))) ⌝ }
 {
-    let mut again = [0u8; 1024];
-    mark_all(row, starts, ends, &mut again);
     let mut j: usize = 0;
     while j < starts.len() {
-        if again[j] != 0 {
+        let b = folds::at16(ends, j);
+        let w = folds::at16(starts, j) * stride + b / 64;
+        let old = seen[w];
+        let new = old | pool::bit(b % 64);
+        if old == new {
             return Repeated {
                 place: j,
                 tried: j + 1,
             };
         }
+        seen[w] = new;
         j += 1;
     }
     Repeated { place: j, tried: j }
+}
+
+// Tries the edges from the lowest up as repeats of earlier ones, to the first find. Fewer vertices, fewer words.
+pub fn find_repeat(row: &[u16], starts: &[u16], ends: &[u16]) -> Repeated
+    requires { ⌜ Fits (now row) (now starts) (now ends) ⌝ }
+    ensures { λ r. ⌜ (r .place ≡ firstTo (length (now (starts .entry))) (repeats (now (starts .entry)) (now (ends .entry)))) × (r .tried ≡ tried (r .place) (length (now (starts .entry)))) ⌝ }
+{
+    let n = row.len();
+    if n <= 64 {
+        let mut seen = [0u64; 64];
+        return first_repeat(starts, ends, 1, &mut seen);
+    }
+    if n <= 256 {
+        let mut seen = [0u64; 1024];
+        return first_repeat(starts, ends, 4, &mut seen);
+    }
+    let mut seen = [0u64; 4096];
+    first_repeat(starts, ends, 8, &mut seen)
 }
 
 // Checks 7 and 8, on the vertices' own row.
