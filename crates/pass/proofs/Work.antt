@@ -124,23 +124,19 @@ placed-set {table} h t p l =
 
 module _ (froms tos widths costs : List ℕ) (bound h : ℕ) where
   -- a cluster to which nothing is open stays
-  closed-stays : {low high marks : List ℕ} (w : Work) → h < 512 → Known froms tos (w .table) (w .sums .count) low high marks → getD marks h 0 ≡ 0
-      → choiceAt froms tos widths costs bound h w ≡ getD (w .table) h 0
+  closed-stays : {table low high marks : List ℕ} (S : PartSums) → h < 512 → Known froms tos table (S .count) low high marks → getD marks h 0 ≡ 0
+      → choiceAt froms tos widths costs bound h table S ≡ getD table h 0
   unfolding choiceAt
-  closed-stays {marks = marks} w l K z =
+  closed-stays {marks = marks} S l K z =
       let n : getD marks h 0 ≡ 2 → ⊥ = λ e. omega arith in
-      rw (← K .low-is h l n, ← K .high-is h l n) (closed-idle (w .sums) _ _ bound _ _ (K .closed h l z) _)
+      rw (← K .low-is h l n, ← K .high-is h l n) (closed-idle S _ _ bound _ _ (K .closed h l z) _)
 
-  pub goal-closed : {own : ℕ} {low high marks : List ℕ} (w : Work) → h < 512 → Read (w .table) h 16 own → Known froms tos (w .table) (w .sums .count) low high marks
-      → getD marks h 0 ≡ 0 → Goal froms tos widths costs bound h w low high marks own
-  goal-closed w l o K z = record { is = o .is ∙ sym (closed-stays w l K z); within = o .low; known = K }
-
-  -- for any other the choice is by what is known of it
-  pub goal-fresh : {own lo hi t : ℕ} {low high marks : List ℕ} (w : Work) → h < 512 → Read (w .table) h 16 own → Fresh froms tos (w .table) (w .sums .count) h low high marks
-      → lo ≡ getD low h 0 → hi ≡ getD high h 0 → Chosen (pullTo froms tos widths (w .table) h) (w .sums) own (getD costs h 0) bound lo hi t
-      → Goal froms tos widths costs bound h w low high marks t
+  -- what is known of a cluster decides where it goes
+  pub goal-fresh : {own lo hi t : ℕ} {table low high marks : List ℕ} (S : PartSums) → h < 512 → Read table h 16 own → Fresh froms tos table (S .count) h low high marks
+      → lo ≡ getD low h 0 → hi ≡ getD high h 0 → Chosen (pullTo froms tos widths table h) S own (getD costs h 0) bound lo hi t
+      → Goal froms tos widths costs bound h table S low high marks t
   unfolding choiceAt
-  goal-fresh w l o F el eh C =
+  goal-fresh S l o F el eh C =
       record {
         is = C .is ∙ rw (o .is, el, eh, F .known .low-is h l (F .right), F .known .high-is h l (F .right));
         within = C .within;
@@ -148,24 +144,29 @@ module _ (froms tos widths costs : List ℕ) (bound h : ℕ) where
       }
 
   -- where a cluster goes elsewhere: the sums allow it, and its mark is not 0
-  module _ {t : ℕ} {low high marks : List ℕ} (w : Work) (G : Goal froms tos widths costs bound h w low high marks t) (n : t ≡ getD (w .table) h 0 → ⊥) where
-    pub goal-allowed : getD (w .table) h 0 < 16 → bound < 2 ^ 32 → Shifts (w .sums) (getD (w .table) h 0) t (getD costs h 0)
+  module _ {t : ℕ} {table low high marks : List ℕ} {S : PartSums} (G : Goal froms tos widths costs bound h table S low high marks t) (n : t ≡ getD table h 0 → ⊥) where
+    pub goal-allowed : getD table h 0 < 16 → bound < 2 ^ 32 → Shifts S (getD table h 0) t (getD costs h 0)
     unfolding choiceAt
     goal-allowed lo lb =
         rw (G .is) (allowed-shifts _ _ _ _ _ (choice-allowed _ _ _ _ _ _ _ (rw (G .is) at n)) lo (rw (G .is) at (G .within)) lb)
 
     pub goal-marked : h < 512 → getD marks h 0 ≡ 0 → ⊥
-    goal-marked l z = n (G .is ∙ closed-stays w l (G .known) z)
+    goal-marked l z = n (G .is ∙ closed-stays S l (G .known) z)
 
-  pub worked-stay : (w : Work) (t : ℕ) → t ≡ choiceAt froms tos widths costs bound h w → t ≡ getD (w .table) h 0 → w ≡ worked froms tos widths costs bound h w
+  pub worked-stay : (w : Work) (t : ℕ) → t ≡ choiceAt froms tos widths costs bound h (w .table) (w .sums) → t ≡ getD (w .table) h 0 → w ≡ worked froms tos widths costs bound h w
   unfolding worked movedBy
   worked-stay w t e n = rw (← e, eq-eqb _ _ n)
 
   pub worked-move : (w : Work) (own cost t : ℕ) (S : PartSums) → own ≡ getD (w .table) h 0 → cost ≡ getD costs h 0
-      → t ≡ choiceAt froms tos widths costs bound h w → (t ≡ own → ⊥) → S ≡ shifted (w .sums) own t cost
+      → t ≡ choiceAt froms tos widths costs bound h (w .table) (w .sums) → (t ≡ own → ⊥) → S ≡ shifted (w .sums) own t cost
       → _≡_ {A = Work} (record { table = set (w .table) h t; sums = S; moves = w .moves + 1 }) (worked froms tos widths costs bound h w)
   unfolding worked movedBy
   worked-move w own cost t S eo ec e n es = rw (← e, ← eo, ← ec, ne-eqb t own n, es)
+
+  -- a visit that is left out
+  pub done-closed : {low high marks : List ℕ} (w : Work) → h < 512 → Placed (w .table) → Known froms tos (w .table) (w .sums .count) low high marks → getD marks h 0 ≡ 0
+      → Done w w 1 (worked froms tos widths costs bound h w)
+  done-closed w l p K z = record { is-so = worked-stay w _ (sym (closed-stays (w .sums) l K z)) refl; placed = p; counts = refl; few = omega arith }
 
 -- a loop of visits: the start, and a turn
 pub done-none : (f : ℕ → Work → Work) (w : Work) → Placed (w .table) → Done w w 0 (turns 0 f w)

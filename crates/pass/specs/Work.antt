@@ -43,10 +43,9 @@ abbrev pub workOf : List ℕ → Progress → Work
 workOf table p = record { table = table; sums = p .sums; moves = p .moves }
 
 -- a visit of cluster h, by a rung's lists and the clusters' costs
-unfoldable pub choiceAt : List ℕ → List ℕ → List ℕ → List ℕ → ℕ → ℕ → Work → ℕ
-choiceAt froms tos widths costs bound h w =
-    choiceOf (pullTo froms tos widths (w .table) h) (w .sums) (getD (w .table) h 0) (getD costs h 0) bound (lowNext froms tos (w .table) h (w .sums .count))
-    (highBefore froms tos (w .table) h)
+unfoldable pub choiceAt : List ℕ → List ℕ → List ℕ → List ℕ → ℕ → ℕ → List ℕ → PartSums → ℕ
+choiceAt froms tos widths costs bound h table S =
+    choiceOf (pullTo froms tos widths table h) S (getD table h 0) (getD costs h 0) bound (lowNext froms tos table h (S .count)) (highBefore froms tos table h)
 
 unfoldable pub movedBy : List ℕ → ℕ → ℕ → Work → Work
 movedBy costs h t w =
@@ -54,13 +53,13 @@ movedBy costs h t w =
     (record { table = set (w .table) h t; sums = shifted (w .sums) (getD (w .table) h 0) t (getD costs h 0); moves = w .moves + 1 })
 
 unfoldable pub worked : List ℕ → List ℕ → List ℕ → List ℕ → ℕ → ℕ → Work → Work
-worked froms tos widths costs bound h w = movedBy costs h (choiceAt froms tos widths costs bound h w) w
+worked froms tos widths costs bound h w = movedBy costs h (choiceAt froms tos widths costs bound h (w .table) (w .sums)) w
 
 -- r is where the visit of cluster h takes it, and what is known afterwards of the clusters
-pub record Goal (froms tos widths costs : List ℕ) (bound h : ℕ) (w : Work) (low high marks : List ℕ) (r : ℕ) : Type 0 where
-  pub is : r ≡ choiceAt froms tos widths costs bound h w
+pub record Goal (froms tos widths costs : List ℕ) (bound h : ℕ) (table : List ℕ) (S : PartSums) (low high marks : List ℕ) (r : ℕ) : Type 0 where
+  pub is : r ≡ choiceAt froms tos widths costs bound h table S
   pub within : r < 16
-  pub known : Known froms tos (w .table) (w .sums .count) low high marks
+  pub known : Known froms tos table (S .count) low high marks
 
 -- what the code says of the work w′ that came of w by at most so many moves
 pub record Done (w w′ : Work) (most : ℕ) (is : Work) : Type 0 where

@@ -159,7 +159,7 @@ fn decide(
     choice(&toward, sums, own, low, high, cost, bound)
 }
 
-// Where the visit of cluster h takes it. The parts around it are looked at where a candidate is open to it.
+// Where the visit of cluster h takes it, by the parts around it, which are found again where an end of its edges has moved.
 fn goal(
     from: &[u16],
     to: &[u16],
@@ -175,20 +175,16 @@ fn goal(
     low: &mut [u16; 512],
     high: &mut [u16; 512],
     marks: &mut [u8; 512],
-    before: Progress,
+    sums: PartSums,
 ) -> usize
     requires { ⌜ Listed (now from) (now to) (now widths) ⌝ }
     requires { ⌜ Indexed (now from) (now to) (now head) (now next) (now «head_in») (now «next_in») ⌝ }
     requires { ⌜ Placed (now table) ⌝ }
-    requires { ⌜ Known (now from) (now to) (now table) (before .sums .count) (now low) (now high) (now marks) ⌝ }
-    requires { ⌜ (h < 512) × (length (now costs) ≡ 512) × (before .sums .count ≤ 16) ⌝ }
-    ensures { λ r. ⌜ Goal (now (from .entry)) (now (to .entry)) (now (widths .entry)) (now (costs .entry)) bound h (workOf (now (table .entry)) before) (now (low .exit)) (now (high .exit)) (now (marks .exit)) r ⌝ }
+    requires { ⌜ Known (now from) (now to) (now table) (sums .count) (now low) (now high) (now marks) ⌝ }
+    requires { ⌜ (h < 512) × (length (now costs) ≡ 512) × (sums .count ≤ 16) ⌝ }
+    ensures { λ r. ⌜ Goal (now (from .entry)) (now (to .entry)) (now (widths .entry)) (now (costs .entry)) bound h (now (table .entry)) sums (now (low .exit)) (now (high .exit)) (now (marks .exit)) r ⌝ }
 {
     let own = visit::part_at(table, h);
-    if marks[h] == 0 {
-        return own;
-    }
-    let sums = before.sums;
     let k = sums.count;
     visit::refresh(
         from,
@@ -223,7 +219,7 @@ fn goal(
     )
 }
 
-// Visits cluster h, and moves it where an allowed candidate gains.
+// Visits cluster h, and moves it where an allowed candidate gains. One to which no candidate is open is passed over.
 fn refine_cluster(
     from: &[u16],
     to: &[u16],
@@ -249,6 +245,10 @@ fn refine_cluster(
     ensures { λ r. ⌜ Done (workOf (now (table .entry)) before) (workOf (now (table .exit)) r) 1 (worked (now (from .entry)) (now (to .entry)) (now (widths .entry)) (now (costs .entry)) bound h (workOf (now (table .entry)) before)) ⌝ }
     ensures { λ _. ⌜ Known (now (from .entry)) (now (to .entry)) (now (table .exit)) (before .sums .count) (now (low .exit)) (now (high .exit)) (now (marks .exit)) ⌝ }
 {
+    if marks[h] == 0 {
+        return before;
+    }
+    let sums = before.sums;
     let own = visit::part_at(table, h);
     let t = goal(
         from,
@@ -265,14 +265,13 @@ fn refine_cluster(
         low,
         high,
         marks,
-        before,
+        sums,
     );
     if t == own {
         return before;
     }
     table[h] = t as u16;
     visit::rouse(from, to, head, next, head_in, next_in, h, marks);
-    let sums = before.sums;
     let after = sums.moved(own, t, costs[h]);
     Progress {
         sums: after,

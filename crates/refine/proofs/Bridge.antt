@@ -142,7 +142,7 @@ module _ (G : Graph) (P : Proper G) (k bound : ℕ) (row costs froms tos widths 
       let (n, l) = c refl in rw (less-gain (pull G row parts h best) (pull G row parts h t) (pull G row parts h (partOf row parts h)), allows-sums t n l)
 
   -- the lists say what the graph says
-  choice-graph : choiceAt froms tos widths costs bound h w ≡ choiceOf (pull G row parts h) (w .sums) own cost bound (lowestNext G (w .sums .count) row parts h) (aboveBefore G row parts h)
+  choice-graph : choiceAt froms tos widths costs bound h (w .table) (w .sums) ≡ choiceOf (pull G row parts h) (w .sums) own cost bound (lowestNext G (w .sums .count) row parts h) (aboveBefore G row parts h)
   unfolding choiceAt parts own cost
   choice-graph =
       choice-ext _ (pull G row parts h) (w .sums) own cost bound (λ u _. pull-lists lists (P .formed) row-of (P .wide) (w .table) h u) _ _ own-low (omega (arith, R .counts))
@@ -170,10 +170,10 @@ module _ (G : Graph) (P : Proper G) (k bound : ℕ) (row costs froms tos widths 
       high = aboveBefore G row parts h
 
   -- the code's choice is the definitions'
-  choice-target : choiceAt froms tos widths costs bound h w ≡ target G k bound row parts h
+  choice-target : choiceAt froms tos widths costs bound h (w .table) (w .sums) ≡ target G k bound row parts h
   choice-target = choice-graph ∙ choice-counted ∙ ap (λ (x : ℕ). target G x bound row parts h) (R .counts)
 
-  choice-low : choiceAt froms tos widths costs bound h w < 16
+  choice-low : choiceAt froms tos widths costs bound h (w .table) (w .sums) < 16
   unfolding choiceAt own
   choice-low = choice-below _ _ (w .sums) own (getD costs h 0) bound (λ u l. refl) _ _ own-low (omega (arith, R .counts))
 

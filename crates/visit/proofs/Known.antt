@@ -1,7 +1,6 @@
 -- What is known of the clusters: made by a sweep, made right again for one of them, and kept where one moves.
-use Prim.Native.Nat.{ℕ, zero, suc, _+_, _≤_, _<_, min, max}
+use Prim.Native.Nat.{ℕ, zero, suc, _+_, _<_, min, max}
 use mathlib.Core.Path.{_≡_, refl, sym, ap, _∙_}
-use mathlib.Core.Bool.{Bool, true, false}
 use mathlib.Core.List.{List}
 use native.Mathlib.Numerals.{add-one}
 use native.Mathlib.Omega.{arith}
@@ -15,7 +14,7 @@ use Rattle.folds.proofs.Loops.{turns-zero, turns-step}
 use Rattle.graph.specs.Graph.{via}
 use Rattle.graph.specs.Links.{Linked}
 use Rattle.graph.proofs.Links.{On}
-use Rattle.visit.specs.Visit.{Ended, lowerBy, raiseBy, lowNext, highBefore}
+use Rattle.visit.specs.Visit.{lowerBy, raiseBy, lowNext, highBefore}
 use Rattle.visit.specs.Known.{openTo, Known, Swept, Opened, Fresh, Staled, Roused}
 
 -- a step at the edges whose near end is c

@@ -2,7 +2,6 @@
 use Rattle.visit.proofs.Known.{known-set}
 use Rattle.visit.proofs.Laws.{ended-back}
 use Rattle.visit.specs.Visit.{lowNext, highBefore}
-use native.Mathlib.Omega.{arith}
 use borrow.Author.Needs.{needs}
 use Rattle.visit.proofs.refresh.Statement.{statement}
 use Rattle.visit.proofs.refresh.Tie as tie
