@@ -12,14 +12,11 @@ use Rattle.folds.specs.Fold.{pick, firstTo}
 use Rattle.folds.proofs.Cases.{by, both}
 use Rattle.folds.proofs.Searches.{firstTo-found, firstTo-all}
 use Rattle.division.specs.Division.{Pick, none, some, better, given}
-use Rattle.division.specs.Table.{bestBelow, ahead, best, noCut, cutIn, lowest, own, Done, leads, nextBy, startsBy}
+use Rattle.division.specs.Table.{bestBelow, ahead, best, noCut, cutIn, lowest, Done, leads, nextBy, startsBy}
+use Rattle.division.specs.Fewest.{Before}
 use Rattle.division.proofs.Picks.{best-first}
 use Rattle.division.proofs.Best.{outs}
 use Rattle.division.proofs.Wins.{ahead-some, best-holds}
-
-pub own-most : (y : ℕ) → own y ≤ 1
-own-most zero = omega arith
-own-most (suc y) = omega arith
 
 -- an interval passes the test if one around it does
 abbrev pub Monotone : (ℕ → ℕ → Bool) → Type 0
@@ -75,57 +72,60 @@ module _ (g : ℕ) (ok : ℕ → ℕ → Bool) (out : ℕ → ℕ → ℕ) (narr
   best-stop y c l e = by (ltb y g && ok y g) (λ t. cc) (λ t. cc)
 
   -- reading the table
-  module _ (mono : Monotone ok) (cuts : List ℕ) (n : ℕ) (few : n ≤ 16) (D : Done n g ok out 0 cuts) where
-    -- the next start, and that those before it cut more
+  module _ (mono : Monotone ok) (cuts : List ℕ) (n : ℕ) (few : n ≤ 16) (before : List ℕ) (B : Before g ok before) (D : Done n g ok out before 0 cuts) where
+    -- the next start, to which an interval leads, and that those before it cut more
     best-next : (j y c : ℕ) (l : List ℕ) → best g ok out (suc j) y ≡ some c l
-        → (x : ℕ) × (x < g) × (d : ℕ) × (m : List ℕ) × (y < x) × (best g ok out j x ≡ some d m) × (l ≡ x ∷ m) × (c ≡ out y x + d)
+        → (x : ℕ) × (x < g) × (d : ℕ) × (m : List ℕ) × (y < x) × (ok y x ≡ true) × (best g ok out j x ≡ some d m) × (l ≡ x ∷ m) × (c ≡ out y x + d)
         × ((z : ℕ) → y < z → z < x → j < 16 → c < out y z + cutIn (best g ok out j z))
     unfolding best
     best-next j y c l e =
         let (x, lx, r, before) = best-first g _ c l e in
         let (d, m, t, b, q, s) = ahead-some (ltb y x && ok y x) x (out y x) (best g ok out j x) c l r in
         let (u, o) = both (ltb y x) (ok y x) t in
-        (x, lx, d, m, ltb-true y x u, b, q, s, λ z h k lj. above z (best g ok out j z) refl lj (λ i f p. before z i f k (rw (lt-ltb y z h, mono y y z x (omega arith) (omega arith) o) p)))
+        (x, lx, d, m, ltb-true y x u, o, b, q, s, λ z h k lj. above z (best g ok out j z) refl lj (λ i f p. before z i f k (rw (lt-ltb y z h, mono y y z x (omega arith) (omega arith) o) p)))
       where
         above : (z : ℕ) (p : Pick (List ℕ)) → best g ok out j z ≡ p → j < 16 → ((i : ℕ) (f : List ℕ) → ahead z (out y z) (best g ok out j z) ≡ some i f → c < i) → c < out y z + cutIn (best g ok out j z)
         above z none q h k = omega (arith, ap cutIn q, best-small (suc j) y c l e)
         above z (some a f) q h k = omega (arith, ap cutIn q, k (out y z + a) (z ∷ f) (ap (ahead z (out y z)) q))
 
-    next-is : (j y c : ℕ) (l : List ℕ) → own y + suc j ≤ n → y < g → best g ok out (suc j) y ≡ some c l
-        → (d : ℕ) × (m : List ℕ) × (nextBy g out cuts j y < g) × (best g ok out j (nextBy g out cuts j y) ≡ some d m) × (l ≡ nextBy g out cuts j y ∷ m)
+    next-is : (j y c : ℕ) (l : List ℕ) → getD before y 0 + suc j ≤ n → y < g → best g ok out (suc j) y ≡ some c l
+        → (d : ℕ) × (m : List ℕ) × (nextBy g out cuts j y < g) × (getD before (nextBy g out cuts j y) 0 + j ≤ n) × (best g ok out j (nextBy g out cuts j y) ≡ some d m) × (l ≡ nextBy g out cuts j y ∷ m)
     unfolding nextBy
     next-is j y c l h ly e =
-        let (x, lx, d, m, u, b, q, s, before) = best-next j y c l e in
+        let (x, lx, d, m, u, o, b, q, s, first) = best-next j y c l e in
+        let near : (z : ℕ) → y ≤ z → z ≤ x → getD before z 0 + j ≤ n = λ z k i. omega (arith, B .step y z k (omega arith) (mono y y z x (omega arith) i o)) in
         let goal : getD cuts (y * 17 + (j + 1)) 0 ≡ c = D .done y (j + 1) (omega arith) ly (omega arith) ∙ ap cutIn (ap (λ (i : ℕ). best g ok out i y) (add-one j) ∙ e) in
-        let hit : out y x + getD cuts (x * 17 + j) 0 ≡ getD cuts (y * 17 + (j + 1)) 0 = omega (arith, goal, D .done x j (omega arith) lx (omega (arith, own-most x)), ap cutIn b, s) in
+        let hit : out y x + getD cuts (x * 17 + j) 0 ≡ getD cuts (y * 17 + (j + 1)) 0 = omega (arith, goal, D .done x j (omega arith) lx (near x (omega arith) (omega arith)), ap cutIn b, s) in
         let here : leads out cuts j y x ≡ true = rw (lt-ltb y x u) (eq-eqb _ _ hit) in
         let skip : firstTo x (leads out cuts j y) ≡ x = firstTo-all x _ (λ z k.
         by (ltb y z)
-        (λ t. rw t (ne-eqb _ _ (miss z (before z (ltb-true y z t) k (omega arith)) goal (D .done z j (omega arith) (omega arith) (omega (arith, own-most z))))))
+        (λ t.
+        let i = ltb-true y z t in
+        rw t (ne-eqb _ _ (miss z (first z i k (omega arith)) goal (D .done z j (omega arith) (omega arith) (near z (omega arith) (omega arith))))))
         (λ t. rw t)) in
         let is : nextBy g out cuts j y ≡ x = firstTo-found g x _ skip here lx in
-        (d, m, rw is lx, rw is b, rw is q)
+        (d, m, rw is lx, rw is (near x (omega arith) (omega arith)), rw is b, rw is q)
       where
         miss : (z : ℕ) → c < out y z + cutIn (best g ok out j z) → getD cuts (y * 17 + (j + 1)) 0 ≡ c → getD cuts (z * 17 + j) 0 ≡ cutIn (best g ok out j z)
             → out y z + getD cuts (z * 17 + j) 0 ≡ getD cuts (y * 17 + (j + 1)) 0 → ⊥
         miss z a b e i = omega arith
 
-    starts-is : (j y c : ℕ) (l : List ℕ) → own y + j ≤ n → y < g → best g ok out j y ≡ some c l → startsBy g out cuts j y ≡ l
+    starts-is : (j y c : ℕ) (l : List ℕ) → getD before y 0 + j ≤ n → y < g → best g ok out j y ≡ some c l → startsBy g out cuts j y ≡ l
     unfolding startsBy
     starts-is zero y c l h ly e = best-stop y c l e
     starts-is (suc j) y c l h ly e =
-        let (d, m, lx, b, q) = next-is j y c l h ly e in
-        ap (λ l. nextBy g out cuts j y ∷ l) (starts-is j (nextBy g out cuts j y) d m (omega (arith, own-most (nextBy g out cuts j y))) lx b) ∙ sym q
+        let (d, m, lx, k, b, q) = next-is j y c l h ly e in
+        ap (λ l. nextBy g out cuts j y ∷ l) (starts-is j (nextBy g out cuts j y) d m k lx b) ∙ sym q
 
     -- a cell with a cut: the least division has it, and its starts follow; a cell with none: there is no division
-    pub read-some : (j y : ℕ) → own y + j ≤ n → y < g → getD cuts (y * 17 + j) 0 < noCut → best g ok out j y ≡ some (getD cuts (y * 17 + j) 0) (startsBy g out cuts j y)
+    pub read-some : (j y : ℕ) → getD before y 0 + j ≤ n → y < g → getD cuts (y * 17 + j) 0 < noCut → best g ok out j y ≡ some (getD cuts (y * 17 + j) 0) (startsBy g out cuts j y)
     read-some j y h ly lt = go (best g ok out j y) refl
       where
         go : (p : Pick (List ℕ)) → best g ok out j y ≡ p → best g ok out j y ≡ some (getD cuts (y * 17 + j) 0) (startsBy g out cuts j y)
         go none q = absurd (omega (arith, D .done y j (omega arith) ly h, ap cutIn q))
         go (some c l) q = q ∙ ap₂ some (sym (D .done y j (omega arith) ly h ∙ ap cutIn q)) (sym (starts-is j y c l h ly q))
 
-    pub read-none : (j y : ℕ) → own y + j ≤ n → y < g → noCut ≤ getD cuts (y * 17 + j) 0 → best g ok out j y ≡ none
+    pub read-none : (j y : ℕ) → getD before y 0 + j ≤ n → y < g → noCut ≤ getD cuts (y * 17 + j) 0 → best g ok out j y ≡ none
     read-none j y h ly le = go (best g ok out j y) refl
       where
         go : (p : Pick (List ℕ)) → best g ok out j y ≡ p → best g ok out j y ≡ none

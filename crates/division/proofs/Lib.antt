@@ -6,3 +6,4 @@ pub mod Intervals
 pub mod Tables
 pub mod Spans
 pub mod Fills
+pub mod Sweeps

@@ -6,7 +6,7 @@ use mathlib.Core.Logic.{_⊎_, inl, inr}
 use mathlib.Core.List.{List, [], _∷_}
 use native.Mathlib.Omega.{arith}
 use lib.Dec.{ltb, leb, eqb}
-use lib.ListN.{length, getD, set, length-set, take, replicate, getD-replicate}
+use lib.ListN.{length, getD, set, length-set, take, replicate, length-replicate, getD-replicate}
 use lib.Seq.{getD-set-same, getD-set-other, length-take-le, getD-take}
 use borrow.Author.Tests.{ltb-true, ltb-false, lt-ltb, le-ltb, le-leb, lt-leb, leb-true, leb-false, eqb-true, eqb-false}
 use Rattle.folds.specs.Fold.{when, firstTo}
@@ -14,9 +14,8 @@ use Rattle.folds.proofs.Searches.{firstTo-ext, firstTo-le}
 use Rattle.folds.proofs.Lists.{getD-past, set-at-most}
 use Rattle.folds.proofs.Cases.{by, either, eq-or-ne, when-more}
 use Rattle.folds.proofs.Sums.{sumTo-step, sumTo-none, sumTo-less, sumTo-mono, sumTo-ext, sumTo-add, sumTo-only}
-use Rattle.division.specs.Table.{best, noCut, cutIn, lowest, Low, Relaxed, Topped, span, within, Weights, onward, Lanes, Stored, Table, Filled, Column, own, Done, nextBy, startsBy, Within}
+use Rattle.division.specs.Table.{noCut, lowest, Low, Relaxed, Topped, span, within, Weights, onward, lowestFrom, Lanes, Stored, Table, Filled, Column, nextBy, startsBy, Within}
 use Rattle.division.proofs.Intervals.{interval-first}
-use Rattle.division.proofs.Cells.{own-most, cut-next}
 
 -- offers to the lanes
 pub keep-yes : (b x : ℕ) {t : Bool} → t ≡ ltb x b → t ≡ true → x ≡ min b x
@@ -84,7 +83,7 @@ lowest-skip f j (suc n) l z =
     omega (arith, z n (omega arith) (omega arith), lowest-le n f, lowest-skip f j n (omega arith) (λ i li gi. z i li (omega arith))))
     (λ t. let q : j ≡ suc n = omega (arith, ltb-false j (suc n) t) in rw q)
 
-lowest-ext : (n : ℕ) (f h : ℕ → ℕ) → ((x : ℕ) → x < n → f x ≡ h x) → lowest n f ≡ lowest n h
+pub lowest-ext : (n : ℕ) (f h : ℕ → ℕ) → ((x : ℕ) → x < n → f x ≡ h x) → lowest n f ≡ lowest n h
 unfolding lowest
 lowest-ext zero f h e = refl
 lowest-ext (suc n) f h e = omega (arith, lowest-ext n f h (λ x l. e x (omega arith)), e n (omega arith))
@@ -134,7 +133,7 @@ pub within-no : (cost : List ℕ) (bound y x : ℕ) → bound < span cost y x �
 unfolding within
 within-no cost bound y x h = lt-leb (span cost y x) bound h
 
-within-is : (cost : List ℕ) (bound y x : ℕ) → within cost bound y x ≡ leb (span cost y x) bound
+pub within-is : (cost : List ℕ) (bound y x : ℕ) → within cost bound y x ≡ leb (span cost y x) bound
 unfolding within
 within-is cost bound y x = refl
 
@@ -156,32 +155,32 @@ module _ {g y : ℕ} {cost away into : List ℕ} (W : Weights g y cost away into
       let v = W .covers (x + 1) (omega arith) (omega arith) in
       (omega arith, omega arith, omega arith, omega arith)
 
-pub low-none : Low (replicate 16 noCut)
-low-none =
+pub low-none : (k : ℕ) → Low (replicate k noCut)
+low-none k =
     record {
       low = λ i.
-          by (ltb i 16)
-          (λ t. omega (arith, getD-replicate 16 i noCut 0 (ltb-true i 16 t)))
-          (λ t. omega (arith, getD-past (replicate 16 noCut) i (ltb-false i 16 t)));
+          by (ltb i k)
+          (λ t. omega (arith, getD-replicate k i noCut 0 (ltb-true i k t)))
+          (λ t. omega (arith, getD-past (replicate k noCut) i (rw length-replicate (ltb-false i k t))));
     }
 
-module _ (bound y n : ℕ) (cost away into cuts : List ℕ) where
+module _ (bound y from n : ℕ) (cost away into cuts : List ℕ) where
   abbrev going : ℕ → ℕ → ℕ
   going j = onward bound y cost away into (λ z. getD cuts (z * 17 + j) 0)
 
-  pub lanes-none : n ≤ 16 → Lanes bound y n (y + 1) cost away into cuts (replicate 16 noCut)
+  pub lanes-none : n ≤ 16 → Lanes bound y from n (y + 1) cost away into cuts (replicate 16 noCut)
   unfolding onward lowest
   lanes-none few =
       record {
         tall = refl;
-        low = low-none;
+        low = low-none 16;
         here = λ j h.
             getD-replicate 16 j noCut 0 (omega arith)
-            ∙ sym (lowest-skip (going j) 0 (y + 1) (omega arith) (λ i li k. rw (le-ltb y i (omega arith))));
+            ∙ sym (lowest-skip (going (from + j)) 0 (y + 1) (omega arith) (λ i li k. rw (le-ltb y i (omega arith))));
       }
 
-  module _ (x : ℕ) (l : List ℕ) (lt : y < x) (L : Lanes bound y n x cost away into cuts l) where
-    pub lanes-turn : (w : ℕ) (l′ : List ℕ) → span cost y x ≤ bound → w + span into y x ≡ span away y x → Relaxed (x * 17) w cuts n l l′ → Lanes bound y n (x + 1) cost away into cuts l′
+  module _ (x : ℕ) (l : List ℕ) (lt : y < x) (L : Lanes bound y from n x cost away into cuts l) where
+    pub lanes-turn : (w : ℕ) (l′ : List ℕ) → span cost y x ≤ bound → w + span into y x ≡ span away y x → Relaxed (x * 17 + from) w cuts n l l′ → Lanes bound y from n (x + 1) cost away into cuts l′
     unfolding onward
     lanes-turn w l′ h e R =
         let q : span away y x - span into y x ≡ w = omega arith in
@@ -189,12 +188,13 @@ module _ (bound y n : ℕ) (cost away into cuts : List ℕ) where
           tall = R .tall;
           low = relaxed-low (L .low) R;
           here = λ j k.
-              let here : going j x ≡ w + getD cuts (x * 17 + j) 0 = rw (lt-ltb y x lt, within-yes cost bound y x h, q) in
-              omega (arith, R .here j k, L .here j k, lowest-step x (going j), here);
+              let p : x * 17 + (from + j) ≡ x * 17 + from + j = omega arith in
+              let here : going (from + j) x ≡ w + getD cuts (x * 17 + from + j) 0 = rw (lt-ltb y x lt, within-yes cost bound y x h, q, p) in
+              omega (arith, R .here j k, L .here j k, lowest-step x (going (from + j)), here);
         }
 
     -- the interval has grown past the bound
-    pub lanes-over : (g : ℕ) → x ≤ g → bound < span cost y x → Lanes bound y n g cost away into cuts l
+    pub lanes-over : (g : ℕ) → x ≤ g → bound < span cost y x → Lanes bound y from n g cost away into cuts l
     unfolding onward
     lanes-over g k h =
         record {
@@ -202,15 +202,15 @@ module _ (bound y n : ℕ) (cost away into cuts : List ℕ) where
           low = L .low;
           here = λ j lj.
               L .here j lj
-              ∙ sym (lowest-skip (going j) x g k (λ i li gi. rw (lt-ltb y i (omega arith), within-no cost bound y i (omega (arith, span-mono cost y x i li)))));
+              ∙ sym (lowest-skip (going (from + j)) x g k (λ i li gi. rw (lt-ltb y i (omega arith), within-no cost bound y i (omega (arith, span-mono cost y x i li)))));
         }
 
 -- lanes stored
 pub stored-none : {at : ℕ} {lanes cuts : List ℕ} → Low cuts → Stored at 0 lanes cuts cuts
 stored-none L = record { tall = refl; low = L; here = λ j h. absurd (omega arith); other = λ i h. refl }
 
-pub stored-turn : {at n : ℕ} {lanes cuts cuts′ : List ℕ} → Low lanes → Table cuts → at ≤ 8704 → n < 16 → Stored at n lanes cuts cuts′ → Stored at (n + 1) lanes cuts (set cuts′ (at + (n + 1)) (getD lanes n 0))
-stored-turn {at} {n} {lanes} {cuts} {cuts′} L T la ln S =
+pub stored-turn : {at n : ℕ} {lanes cuts cuts′ : List ℕ} → Low lanes → at + (n + 1) < length cuts → Stored at n lanes cuts cuts′ → Stored at (n + 1) lanes cuts (set cuts′ (at + (n + 1)) (getD lanes n 0))
+stored-turn {at} {n} {lanes} {cuts} {cuts′} L la S =
     let i = at + (n + 1) in
     let r = getD lanes n 0 in
     record {
@@ -218,76 +218,55 @@ stored-turn {at} {n} {lanes} {cuts} {cuts′} L T la ln S =
       low = record { low = set-at-most cuts′ i r noCut noCut (omega arith) (L .low n) (S .low .low) };
       here = λ j k.
           either (eq-or-ne j n)
-          (λ q. rw q (getD-set-same cuts′ i r 0 (omega (arith, S .tall, T .tall))))
+          (λ q. rw q (getD-set-same cuts′ i r 0 (omega (arith, S .tall))))
           (λ q. getD-set-other cuts′ i (at + (j + 1)) r 0 (λ e. q (omega arith)) ∙ S .here j (omega arith));
       other = λ z h. getD-set-other cuts′ i z r 0 (λ e. h n (omega arith) e) ∙ S .other z (λ j k e. h j (omega arith) e);
     }
 
-pub filled-none : {bound y n g : ℕ} {cost away into cuts : List ℕ} → Low cuts → n ≡ 0 → Filled bound y n g cost away into cuts cuts
-filled-none L e =
+-- columns filled
+pub filled-none : {bound y from n g : ℕ} {cost away into cuts : List ℕ} → Table g cuts → n ≡ 0 → Filled bound y from n g cost away into cuts cuts
+filled-none T e = record { table = T; here = λ j h. inr (refl, λ k. omega arith); other = λ i h. refl }
+
+pub filled-is : {bound y from n g : ℕ} {cost away into cuts cuts′ lanes : List ℕ} → from + n ≤ 16 → Table g cuts → Lanes bound y from n g cost away into cuts lanes
+    → Stored (y * 17 + from) n lanes cuts cuts′ → Filled bound y from n g cost away into cuts cuts′
+filled-is {bound} {y} {from} {n} {g} {cost} {away} {into} {cuts} {cuts′} {lanes} few T L S =
     record {
-      wide = 0;
-      lanes = replicate 16 noCut;
-      most = omega arith;
-      least = omega arith;
-      are = record { tall = refl; low = low-none; here = λ j h. absurd (omega arith) };
-      stored = stored-none L;
-    }
-
--- lanes that are not wanted
-pub filled-more : {bound y n i g : ℕ} {cost away into cuts cuts′ : List ℕ} → n ≤ i → Filled bound y i g cost away into cuts cuts′ → Filled bound y n g cost away into cuts cuts′
-filled-more h F = record { wide = F .wide; lanes = F .lanes; most = F .most; least = omega (arith, F .least); are = F .are; stored = F .stored }
-
--- a start itself, or the first position
-pub own-first : (n y : ℕ) → y ≡ 0 → n ≡ n - own y
-own-first n y e = rw e (omega arith)
-
-pub own-later : (n y : ℕ) → (y ≡ 0 → ⊥) → n - 1 ≡ n - own y
-own-later n zero h = absurd (h refl)
-own-later n (suc y) h = refl
-
-pub column-is : {bound rest y n g r : ℕ} {cost away into cuts cuts′ : List ℕ} → y < 512 → Table cuts → Filled bound y (n - own y) g cost away into cuts cuts′
-    → ((bound < rest) × (r ≡ noCut)) ⊎ ((rest ≤ bound) × (r ≡ 0)) → Column bound rest y n g cost away into cuts (set cuts′ (y * 17) r)
-column-is {bound} {rest} {y} {n} {g} {r} {cost} {away} {into} {cuts} {cuts′} ly T F h =
-    let S = F .stored in
-    let at = y * 17 in
-    let lr : r ≤ noCut = either h (λ a. omega (arith, a .1)) (λ a. omega (arith, a .1)) in
-    record {
-      table = record { tall = length-set cuts′ at r ∙ S .tall ∙ T .tall; low = record { low = set-at-most cuts′ at r noCut noCut (omega arith) lr (S .low .low) } };
-      last = getD-set-same cuts′ at r 0 (omega (arith, S .tall, T .tall)) ∙ either h (λ a. rw (lt-leb rest bound (a .0)) (a .1)) (λ a. rw (le-leb rest bound (a .0)) (a .1));
-      here = λ j h. getD-set-other cuts′ at (at + (j + 1)) r 0 (λ q. omega arith) ∙ S .here j (omega (arith, F .least)) ∙ F .are .here j (omega (arith, F .least));
-      other = λ z j h ne. getD-set-other cuts′ at (z * 17 + j) r 0 (λ q. ne (omega arith)) ∙ S .other (z * 17 + j) (λ i k q. ne (omega (arith, F .most)));
-    }
-
--- the cuts of y, filled by a sweep over weights that are those of the intervals from y on
-pub done-none : {n g : ℕ} {ok : ℕ → ℕ → Bool} {out : ℕ → ℕ → ℕ} {cuts : List ℕ} → Table cuts → Done n g ok out g cuts
-done-none T = record { table = T; done = λ x j l h k. absurd (omega arith) }
-
-pub done-next : {n g y bound rest : ℕ} {out : ℕ → ℕ → ℕ} {cost away into cuts cuts′ : List ℕ} → n ≤ 16 → y < g → rest ≡ span cost y g → ((y x : ℕ) → out y x ≤ 67107840)
-    → ((x : ℕ) → y ≤ x → x ≤ g → span away y x ≡ out y x + span into y x)
-    → Done n g (within cost bound) out (y + 1) cuts → Column bound rest y n g cost away into cuts cuts′ → Done n g (within cost bound) out y cuts′
-unfolding best onward
-done-next {n} {g} {y} {bound} {rest} {out} {cost} {away} {into} {cuts} {cuts′} few ly e narrow leaves D C =
-    record {
-      table = C .table;
-      done = λ x j l lx lj. either (eq-or-ne x y) (λ e. rw e (here j (rw e at lj))) (λ ne. C .other x j (omega arith) ne ∙ D .done x j (omega arith) lx lj);
+      table = record { long = omega (arith, T .long, S .tall); low = S .low };
+      here = λ j h.
+          by (leb from j)
+          (λ t. by (ltb j (from + n)) (λ u. inl (lane j (leb-true from j t) (ltb-true j (from + n) u)))
+          (λ u. let k = ltb-false j (from + n) u in inr (S .other _ (λ i l e. omega arith), λ _. k)))
+          (λ t. let k = leb-false from j t in inr (S .other _ (λ i l e. omega arith), λ m. omega arith));
+      other = λ i h. S .other i (λ j k e. omega (arith, h (omega arith)));
     }
   where
-    here : (j : ℕ) → own y + j ≤ n → getD cuts′ (y * 17 + j) 0 ≡ cutIn (best g (within cost bound) out j y)
-    here zero l =
-        let q : y * 17 + 0 ≡ y * 17 = omega arith in
-        rw (q, C .last, e, lt-ltb y g ly, ← within-is cost bound y g) (by (within cost bound y g) (λ t. rw t) (λ t. rw t))
-    here (suc j) l =
-        let q : y * 17 + suc j ≡ y * 17 + (j + 1) = omega arith in
-        ap (λ (i : ℕ). getD cuts′ i 0) q ∙ C .here j (omega arith)
-        ∙ lowest-ext g _ _ (λ x lx.
-        by (ltb y x)
-        (λ t.
-        let h = ltb-true y x t in
-        let w : span away y x - span into y x ≡ out y x = omega (arith, leaves x (omega arith) (omega arith)) in
-        rw (t, w, D .done x j (omega arith) lx (omega (arith, own-most x))))
-        (λ t. rw t))
-        ∙ cut-next g (within cost bound) out narrow j y (omega arith)
+    lane : (j : ℕ) → from ≤ j → j < from + n → getD cuts′ (y * 17 + (j + 1)) 0 ≡ lowestFrom bound y g cost away into cuts j
+    lane j l h =
+        let q : from + (j - from) ≡ j = omega arith in
+        let p : y * 17 + (j + 1) ≡ y * 17 + from + (j - from + 1) = omega arith in
+        rw p (S .here (j - from) (omega arith) ∙ L .here (j - from) (omega arith) ∙ ap (lowestFrom bound y g cost away into cuts) q)
+
+-- more columns than are wanted
+pub filled-more : {bound y from from′ n n′ g : ℕ} {cost away into cuts cuts′ : List ℕ} → from′ ≤ from → from + n ≤ from′ + n′ → Filled bound y from′ n′ g cost away into cuts cuts′ → Filled bound y from n g cost away into cuts cuts′
+filled-more a b F =
+    record { table = F .table; here = λ j h. either (F .here j h) inl (λ e. inr (e .0, λ k. let l = e .1 (omega arith) in omega arith)); other = F .other }
+
+pub column-is : {bound rest y n from wide before after g r : ℕ} {cost away into cuts cuts′ : List ℕ} → y < g → n ≤ 16 → from ≤ after - 2 → n ≤ before + from + wide → Filled bound y from wide g cost away into cuts cuts′
+    → ((bound < rest) × (r ≡ noCut)) ⊎ ((rest ≤ bound) × (r ≡ 0)) → Column bound rest y n before after g cost away into cuts (set cuts′ (y * 17) r)
+column-is {bound} {rest} {y} {n} {from} {wide} {before} {after} {g} {r} {cost} {away} {into} {cuts} {cuts′} ly few low high F h =
+    let at = y * 17 in
+    let T = F .table in
+    let lr : r ≤ noCut = either h (λ a. omega (arith, a .1)) (λ a. omega (arith, a .1)) in
+    let same : (i : ℕ) → (i ≡ at → ⊥) → getD (set cuts′ at r) i 0 ≡ getD cuts′ i 0 = λ i q. getD-set-other cuts′ at i r 0 q in
+    record {
+      table = record { long = omega (arith, T .long, length-set cuts′ at r); low = record { low = set-at-most cuts′ at r noCut noCut (omega arith) lr (T .low .low) } };
+      last = getD-set-same cuts′ at r 0 (omega (arith, T .long)) ∙ either h (λ a. rw (lt-leb rest bound (a .0)) (a .1)) (λ a. rw (le-leb rest bound (a .0)) (a .1));
+      here = λ j k.
+          either (F .here j (omega arith))
+          (λ e. inl (same _ (λ q. omega arith) ∙ e))
+          (λ e. inr (same _ (λ q. omega arith) ∙ e .0, by (leb after (j + 2)) (λ t. absurd (omega (arith, leb-true after (j + 2) t, e .1 (omega (arith, leb-true after (j + 2) t))))) (λ t. leb-false after (j + 2) t)));
+      other = λ i k. same i (λ q. omega (arith, k (omega arith))) ∙ F .other i k;
+    }
 
 -- following the cuts
 pub next-within : (g : ℕ) (out : ℕ → ℕ → ℕ) (cuts : List ℕ) (j y : ℕ) → nextBy g out cuts j y ≤ g

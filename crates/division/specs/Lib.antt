@@ -1,2 +1,3 @@
 pub mod Division
 pub mod Table
+pub mod Fewest

@@ -2,11 +2,12 @@
 use Prim.Native.Nat.{ℕ, zero, suc, _+_, _-_, _*_, _≤_, _<_, min}
 use mathlib.Core.Path.{_≡_}
 use mathlib.Core.Bool.{Bool, _&&_}
+use mathlib.Core.Logic.{_⊎_}
 use mathlib.Core.List.{List, [], _∷_}
 use lib.Dec.{ltb, leb, eqb}
 use lib.ListN.{length, getD, take}
 use Rattle.folds.specs.Fold.{pick, when, sumTo, firstTo}
-use Rattle.division.specs.Division.{Feasible, intervalOf, Pick, none, some, better, given}
+use Rattle.division.specs.Division.{intervalOf, Pick, none, some, better, given}
 
 -- the best of f 0, .., f (n - 1), the first among equals
 unfoldable pub bestBelow : {A : Type 0} → ℕ → (ℕ → Pick A) → Pick A
@@ -70,11 +71,15 @@ pub record Weights (g y : ℕ) (cost away into : List ℕ) : Type 0 where
 unfoldable pub onward : ℕ → ℕ → List ℕ → List ℕ → List ℕ → (ℕ → ℕ) → ℕ → ℕ
 onward bound y cost away into f x = pick (ltb y x && within cost bound y x) (span away y x - span into y x + f x) noCut
 
--- lane j, of n, has the least cut of j + 1 starts after y, of which the first is below x
-pub record Lanes (bound y n x : ℕ) (cost away into cuts lanes : List ℕ) : Type 0 where
+-- the least cut of j + 1 starts after y, of which the first is below x
+abbrev pub lowestFrom : ℕ → ℕ → ℕ → List ℕ → List ℕ → List ℕ → List ℕ → ℕ → ℕ
+lowestFrom bound y x cost away into cuts j = lowest x (onward bound y cost away into (λ z. getD cuts (z * 17 + j) 0))
+
+-- n lanes, of from + 1 starts on
+pub record Lanes (bound y from n x : ℕ) (cost away into cuts lanes : List ℕ) : Type 0 where
   pub tall : length lanes ≡ 16
   pub low : Low lanes
-  pub here : (j : ℕ) → j < n → getD lanes j 0 ≡ lowest x (onward bound y cost away into (λ z. getD cuts (z * 17 + j) 0))
+  pub here : (j : ℕ) → j < n → getD lanes j 0 ≡ lowestFrom bound y x cost away into cuts (from + j)
 
 -- n lanes are stored from at + 1 on
 pub record Stored (at n : ℕ) (lanes cuts cuts′ : List ℕ) : Type 0 where
@@ -83,35 +88,42 @@ pub record Stored (at n : ℕ) (lanes cuts cuts′ : List ℕ) : Type 0 where
   pub here : (j : ℕ) → j < n → getD cuts′ (at + (j + 1)) 0 ≡ getD lanes j 0
   pub other : (i : ℕ) → ((j : ℕ) → j < n → i ≡ at + (j + 1) → ⊥) → getD cuts′ i 0 ≡ getD cuts i 0
 
-pub record Table (cuts : List ℕ) : Type 0 where
-  pub tall : length cuts ≡ 8721
+-- a row of 17 cuts for each of g positions, and one for their end
+pub record Table (g : ℕ) (cuts : List ℕ) : Type 0 where
+  pub long : (g + 1) * 17 ≤ length cuts
   pub low : Low cuts
 
--- at least n lanes of position y are stored, at most 16
-pub record Filled (bound y n g : ℕ) (cost away into cuts cuts′ : List ℕ) : Type 0 where
-  pub wide : ℕ
-  pub lanes : List ℕ
-  pub most : wide ≤ 16
-  pub least : n ≤ wide
-  pub are : Lanes bound y wide g cost away into cuts lanes
-  pub stored : Stored (y * 17) wide lanes cuts cuts′
+-- outside the row of y nothing changed
+abbrev pub Beside : ℕ → List ℕ → List ℕ → Type 0
+Beside y cuts cuts′ = (i : ℕ) → (y * 17 ≤ i → y * 17 + 17 ≤ i) → getD cuts′ i 0 ≡ getD cuts i 0
 
--- every position but the first is a start itself
-abbrev pub own : ℕ → ℕ
-own zero = 0
-own (suc y) = 1
+-- each column of y has the least cut, or is as it was and not one of the n from `from` on
+pub record Filled (bound y from n g : ℕ) (cost away into cuts cuts′ : List ℕ) : Type 0 where
+  pub table : Table g cuts′
+  pub here : (j : ℕ) → j < 16
+      → (getD cuts′ (y * 17 + (j + 1)) 0 ≡ lowestFrom bound y g cost away into cuts j)
+      ⊎ ((getD cuts′ (y * 17 + (j + 1)) 0 ≡ getD cuts (y * 17 + (j + 1)) 0) × (from ≤ j → from + n ≤ j))
+  pub other : Beside y cuts cuts′
 
--- the cuts that a division with n starts can have at position y, of g positions whose cost from y on is `rest`
-pub record Column (bound rest y n g : ℕ) (cost away into cuts cuts′ : List ℕ) : Type 0 where
-  pub table : Table cuts′
+-- the cuts that a division with n starts can have at position y, of g positions whose cost from y on is `rest`. Where `before` intervals
+-- lie before y at least and `after` from it on, each column has the least cut, or is as it was and its starts are too few
+pub record Column (bound rest y n before after g : ℕ) (cost away into cuts cuts′ : List ℕ) : Type 0 where
+  pub table : Table g cuts′
   pub last : getD cuts′ (y * 17) 0 ≡ pick (leb rest bound) 0 noCut
-  pub here : (j : ℕ) → own y + j < n → getD cuts′ (y * 17 + (j + 1)) 0 ≡ lowest g (onward bound y cost away into (λ z. getD cuts (z * 17 + j) 0))
-  pub other : (z j : ℕ) → j < 17 → (z ≡ y → ⊥) → getD cuts′ (z * 17 + j) 0 ≡ getD cuts (z * 17 + j) 0
+  pub here : (j : ℕ) → before + j < n
+      → (getD cuts′ (y * 17 + (j + 1)) 0 ≡ lowestFrom bound y g cost away into cuts j)
+      ⊎ ((getD cuts′ (y * 17 + (j + 1)) 0 ≡ getD cuts (y * 17 + (j + 1)) 0) × (j + 2 < after))
+  pub other : Beside y cuts cuts′
 
--- these cuts are the least, from position y on
-pub record Done (n g : ℕ) (ok : ℕ → ℕ → Bool) (out : ℕ → ℕ → ℕ) (y : ℕ) (cuts : List ℕ) : Type 0 where
-  pub table : Table cuts
-  pub done : (x j : ℕ) → y ≤ x → x < g → own x + j ≤ n → getD cuts (x * 17 + j) 0 ≡ cutIn (best g ok out j x)
+-- no cut stands in the rows below y
+pub record Blank (y : ℕ) (cuts : List ℕ) : Type 0 where
+  pub blank : (i : ℕ) → i < y * 17 → getD cuts i 0 ≡ noCut
+
+-- these cuts are the least from position y on, in the columns of the starts that the intervals before a position leave of n; below y none stands yet
+pub record Done (n g : ℕ) (ok : ℕ → ℕ → Bool) (out : ℕ → ℕ → ℕ) (before : List ℕ) (y : ℕ) (cuts : List ℕ) : Type 0 where
+  pub table : Table g cuts
+  pub below : Blank y cuts
+  pub done : (x j : ℕ) → y ≤ x → x < g → getD before x 0 + j ≤ n → getD cuts (x * 17 + j) 0 ≡ cutIn (best g ok out j x)
 
 -- the least start above y whose cut, with what leaves the interval up to it, is that of j + 1 starts after y; or g
 abbrev pub leads : (ℕ → ℕ → ℕ) → List ℕ → ℕ → ℕ → ℕ → Bool
@@ -124,17 +136,6 @@ nextBy g out cuts j y = firstTo g (leads out cuts j y)
 unfoldable pub startsBy : ℕ → (ℕ → ℕ → ℕ) → List ℕ → ℕ → ℕ → List ℕ
 startsBy g out cuts zero y = []
 startsBy g out cuts (suc j) y = let x = nextBy g out cuts j y in x ∷ startsBy g out cuts j x
-
--- every division into intervals within the bound has r of them or more
-pub record Fewest (cost : List ℕ) (bound g r : ℕ) : Type 0 where
-  pub least : (k : ℕ) (d : List ℕ) → Feasible g (within cost bound) k d → r ≤ k
-
--- r intervals, each filled up to the bound, hold the positions below x: the last of them starts in no earlier interval of any division
-pub record Packed (cost : List ℕ) (bound g x load r : ℕ) : Type 0 where
-  pub start : ℕ
-  pub before : start ≤ x
-  pub sum : load ≡ span cost start x
-  pub few : (k : ℕ) (d : List ℕ) → Feasible g (within cost bound) k d → r ≤ suc (intervalOf d start)
 
 -- r is the interval of position p, by the first n of the starts
 pub record Within (starts : List ℕ) (n p r : ℕ) : Type 0 where

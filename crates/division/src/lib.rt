@@ -3,7 +3,8 @@ ghost use mathlib.Core.Path.{_≡_};
 ghost use Prim.Native.Nat.{_+_, _-_, _*_, _<_, _≤_, min};
 ghost use lib.ListN.{length};
 ghost use lib.Dec.{ltb};
-ghost use Rattle.division.specs.Table.{noCut, span, Low, Relaxed, Topped, Weights, Lanes, Stored, Table, Filled, own, Column, Fewest, Within};
+ghost use Rattle.division.specs.Table.{noCut, span, within, Low, Relaxed, Topped, Weights, Lanes, Stored, Table, Filled, Column, Within};
+ghost use Rattle.division.specs.Fewest.{Before, After};
 
 // a < b, compared as signed numbers: the lanes' loop is faster so.
 fn less(a: u32, b: u32) -> bool
@@ -23,10 +24,10 @@ fn keep(b: u32, w: u32, c: u32) -> u32
 }
 
 // The offers to n lanes to go on at the position whose cuts stand from `at` on, at w more.
-fn relax(cut: &[u32; 8721], at: usize, w: u32, n: usize, best: &mut [u32; 16])
+fn relax(cut: &[u32], at: usize, w: u32, n: usize, best: &mut [u32; 16])
     requires { ⌜ Low (now cut) ⌝ }
     requires { ⌜ Low (now best) ⌝ }
-    requires { ⌜ (at ≤ 8704) × (w ≤ 67107840) × (n ≤ 16) × (length (now best) ≡ 16) ⌝ }
+    requires { ⌜ (at + n ≤ length (now cut)) × (w ≤ 67107840) × (n ≤ 16) × (length (now best) ≡ 16) ⌝ }
     ensures { λ _. ⌜ Relaxed at w (now (cut .entry)) n (now (best .entry)) (now (best .exit)) ⌝ }
 {
     let mut j: usize = 0;
@@ -51,28 +52,36 @@ fn highest(best: &[u32; 16], n: usize) -> u32
     m
 }
 
-// The offers of end x at w, where none of n lanes is above `most`: those at or above every lane change nothing.
-fn offer(cut: &[u32; 8721], x: usize, w: u32, n: usize, most: u32, best: &mut [u32; 16]) -> u32
+// The offers of end x at w to n lanes from column `from` on, none of which is above `most`: those at or above every lane change nothing.
+fn offer(
+    cut: &[u32],
+    x: usize,
+    from: usize,
+    w: u32,
+    n: usize,
+    most: u32,
+    best: &mut [u32; 16],
+) -> u32
     requires { ⌜ Low (now cut) ⌝ }
     requires { ⌜ Low (now best) ⌝ }
-    requires { ⌜ (x ≤ 512) × (w ≤ 67107840) × (n ≤ 16) × (length (now best) ≡ 16) ⌝ }
+    requires { ⌜ (x * 17 + from + n ≤ length (now cut)) × (w ≤ 67107840) × (n ≤ 16) × (length (now best) ≡ 16) ⌝ }
     requires { ⌜ Topped n (now best) most ⌝ }
-    ensures { λ _. ⌜ Relaxed (x * 17) w (now (cut .entry)) n (now (best .entry)) (now (best .exit)) ⌝ }
+    ensures { λ _. ⌜ Relaxed (x * 17 + from) w (now (cut .entry)) n (now (best .entry)) (now (best .exit)) ⌝ }
     ensures { λ r. ⌜ Topped n (now (best .exit)) r ⌝ }
 {
     if w >= most {
         return most;
     }
-    relax(cut, x * 17, w, n, best);
+    relax(cut, x * 17 + from, w, n, best);
     // the highest lane is looked up again at every 16th end
     if x % 16 == 0 { highest(best, n) } else { most }
 }
 
-// Stores n lanes: those of 1 to n starts.
-fn store(best: &[u32; 16], at: usize, n: usize, cut: &mut [u32; 8721])
+// Stores n lanes from at + 1 on.
+fn store(best: &[u32; 16], at: usize, n: usize, cut: &mut [u32])
     requires { ⌜ Low (now best) ⌝ }
-    requires { ⌜ Table (now cut) ⌝ }
-    requires { ⌜ (at ≤ 8704) × (n ≤ 16) ⌝ }
+    requires { ⌜ Low (now cut) ⌝ }
+    requires { ⌜ (at + n < length (now cut)) × (n ≤ 16) ⌝ }
     ensures { λ _. ⌜ Stored at n (now (best .entry)) (now (cut .entry)) (now (cut .exit)) ⌝ }
 {
     let mut j: usize = 0;
@@ -82,7 +91,7 @@ fn store(best: &[u32; 16], at: usize, n: usize, cut: &mut [u32; 8721])
     }
 }
 
-// The first n lanes of position y: over the ends of its interval, as far as it is within the bound.
+// The lanes of from + 1 to from + n starts after y: over the ends of its interval, as far as it is within the bound.
 fn reach(
     cost: &[u32; 512],
     away: &[u32; 512],
@@ -90,13 +99,14 @@ fn reach(
     bound: u32,
     g: usize,
     y: usize,
+    from: usize,
     n: usize,
-    cut: &[u32; 8721],
+    cut: &[u32],
 ) -> [u32; 16]
     requires { ⌜ Weights g y (now cost) (now away) (now into) ⌝ }
-    requires { ⌜ Low (now cut) ⌝ }
-    requires { ⌜ (y < g) × (g ≤ 512) × (n ≤ 16) ⌝ }
-    ensures { λ r. ⌜ Lanes bound y n g (now (cost .entry)) (now (away .entry)) (now (into .entry)) (now (cut .entry)) r ⌝ }
+    requires { ⌜ Table g (now cut) ⌝ }
+    requires { ⌜ (y < g) × (g ≤ 512) × (from + n ≤ 16) ⌝ }
+    ensures { λ r. ⌜ Lanes bound y from n g (now (cost .entry)) (now (away .entry)) (now (into .entry)) (now (cut .entry)) r ⌝ }
 {
     let mut best = [1073741824u32; 16];
     let mut most: u32 = 1073741824;
@@ -107,7 +117,7 @@ fn reach(
         if load > bound {
             return best;
         }
-        most = offer(cut, x, out, n, most, &mut best);
+        most = offer(cut, x, from, out, n, most, &mut best);
         load = load + cost[x];
         out = out + away[x] - into[x];
         x += 1;
@@ -115,7 +125,7 @@ fn reach(
     best
 }
 
-// Stores the first n lanes of position y.
+// Stores the lanes of from + 1 to from + n starts after y.
 fn fill(
     cost: &[u32; 512],
     away: &[u32; 512],
@@ -123,16 +133,23 @@ fn fill(
     bound: u32,
     g: usize,
     y: usize,
+    from: usize,
     n: usize,
-    cut: &mut [u32; 8721],
+    cut: &mut [u32],
 )
     requires { ⌜ Weights g y (now cost) (now away) (now into) ⌝ }
-    requires { ⌜ Table (now cut) ⌝ }
-    requires { ⌜ (y < g) × (g ≤ 512) × (n ≤ 16) ⌝ }
-    ensures { λ _. ⌜ Filled bound y n g (now (cost .entry)) (now (away .entry)) (now (into .entry)) (now (cut .entry)) (now (cut .exit)) ⌝ }
+    requires { ⌜ Table g (now cut) ⌝ }
+    requires { ⌜ (y < g) × (g ≤ 512) × (from + n ≤ 16) ⌝ }
+    ensures { λ _. ⌜ Filled bound y from n g (now (cost .entry)) (now (away .entry)) (now (into .entry)) (now (cut .entry)) (now (cut .exit)) ⌝ }
 {
-    let best = reach(cost, away, into, bound, g, y, n, cut);
-    store(&best, y * 17, n, cut);
+    let best = reach(cost, away, into, bound, g, y, from, n, cut);
+    store(&best, y * 17 + from, n, cut);
+}
+
+fn lower(a: usize, b: usize) -> usize
+    ensures { λ r. ⌜ r ≡ min a b ⌝ }
+{
+    if a < b { a } else { b }
 }
 
 // The same by a loop over a fixed number of lanes, some of which are not wanted: that is quicker.
@@ -143,40 +160,38 @@ fn fill_fixed(
     bound: u32,
     g: usize,
     y: usize,
+    from: usize,
     n: usize,
-    cut: &mut [u32; 8721],
+    cut: &mut [u32],
 )
     requires { ⌜ Weights g y (now cost) (now away) (now into) ⌝ }
-    requires { ⌜ Table (now cut) ⌝ }
-    requires { ⌜ (y < g) × (g ≤ 512) × (n ≤ 16) ⌝ }
-    ensures { λ _. ⌜ Filled bound y n g (now (cost .entry)) (now (away .entry)) (now (into .entry)) (now (cut .entry)) (now (cut .exit)) ⌝ }
+    requires { ⌜ Table g (now cut) ⌝ }
+    requires { ⌜ (y < g) × (g ≤ 512) × (n ≤ 16 - from) ⌝ }
+    ensures { λ _. ⌜ Filled bound y from n g (now (cost .entry)) (now (away .entry)) (now (into .entry)) (now (cut .entry)) (now (cut .exit)) ⌝ }
 {
     if n == 0 {
         return;
     }
     if n <= 4 {
-        fill(cost, away, into, bound, g, y, 4, cut);
+        fill(cost, away, into, bound, g, y, lower(from, 12), 4, cut);
         return;
     }
     if n <= 8 {
-        fill(cost, away, into, bound, g, y, 8, cut);
+        fill(cost, away, into, bound, g, y, lower(from, 8), 8, cut);
         return;
     }
-    fill(cost, away, into, bound, g, y, 16, cut);
+    fill(cost, away, into, bound, g, y, 0, 16, cut);
 }
 
-// How many of n starts can follow position y.
-fn following(n: usize, y: usize) -> usize
-    requires { ⌜ n ≤ 16 ⌝ }
-    ensures { λ r. ⌜ r ≡ n - own y ⌝ }
+// How far a is above b.
+fn excess(a: usize, b: usize) -> usize
+    ensures { λ r. ⌜ r ≡ a - b ⌝ }
 {
-    if y == 0 {
-        return n;
-    }
-    if n == 0 { 0 } else { n - 1 }
+    if a < b { 0 } else { a - b }
 }
 
-// Fills the cuts that a division with n starts can have at position y; from y on all costs `rest`.
+// Fills the cuts that a division with n starts can have at position y, where at least `before` intervals lie before it and `after` from it on.
+// From y on all costs `rest`.
 pub fn sweep(
     cost: &[u32; 512],
     away: &[u32; 512],
@@ -185,28 +200,33 @@ pub fn sweep(
     g: usize,
     y: usize,
     n: usize,
+    before: usize,
+    after: usize,
     rest: u32,
-    cut: &mut [u32; 8721],
+    cut: &mut [u32],
 )
     requires { ⌜ Weights g y (now cost) (now away) (now into) ⌝ }
-    requires { ⌜ Table (now cut) ⌝ }
+    requires { ⌜ Table g (now cut) ⌝ }
     requires { ⌜ (y < g) × (g ≤ 512) × (n ≤ 16) ⌝ }
-    ensures { λ _. ⌜ Column bound rest y n g (now (cost .entry)) (now (away .entry)) (now (into .entry)) (now (cut .entry)) (now (cut .exit)) ⌝ }
+    ensures { λ _. ⌜ Column bound rest y n before after g (now (cost .entry)) (now (away .entry)) (now (into .entry)) (now (cut .entry)) (now (cut .exit)) ⌝ }
 {
-    let lanes = following(n, y);
-    fill_fixed(cost, away, into, bound, g, y, lanes, cut);
+    let from = excess(after, 2);
+    let lanes = excess(excess(n, before), from);
+    fill_fixed(cost, away, into, bound, g, y, from, lanes, cut);
     cut[y * 17] = if bound < rest { 1073741824 } else { 0 };
 }
 
-// How many intervals there are where each is filled up to the bound.
-pub fn fewest(cost: &[u32; 512], bound: u32, g: usize) -> usize
-    requires { ⌜ (g ≤ 512) × (span (now cost) 0 g ≤ 33553920) ⌝ }
-    ensures { λ r. ⌜ Fewest (now (cost .entry)) bound g r ⌝ }
+// How many intervals within the bound the positions before each of g take at least: as many as filled ones.
+pub fn fewest_before(cost: &[u32; 512], bound: u32, g: usize, before: &mut [u16; 512])
+    requires { ⌜ (g ≤ 512) × (span (now cost) 0 g ≤ 33553920) × (length (now before) ≡ 512) ⌝ }
+    ensures { λ _. ⌜ Before g (within (now (cost .entry)) bound) (now (before .exit)) ⌝ }
 {
     let mut count: usize = 1;
-    let mut load: u32 = 0;
-    let mut x: usize = 0;
+    let mut load = cost[0];
+    before[0] = 0;
+    let mut x: usize = 1;
     while x < g {
+        before[x] = count as u16;
         load = load + cost[x];
         if bound < load {
             count += 1;
@@ -214,7 +234,25 @@ pub fn fewest(cost: &[u32; 512], bound: u32, g: usize) -> usize
         }
         x += 1;
     }
-    count
+}
+
+// How many those from each of g on take at least.
+pub fn fewest_after(cost: &[u32; 512], bound: u32, g: usize, after: &mut [u16; 512])
+    requires { ⌜ (g ≤ 512) × (span (now cost) 0 g ≤ 33553920) × (length (now after) ≡ 512) ⌝ }
+    ensures { λ _. ⌜ After g (within (now (cost .entry)) bound) 0 (now (after .exit)) ⌝ }
+{
+    let mut count: usize = 1;
+    let mut held: u32 = 0;
+    let mut y = g;
+    while y > 0 {
+        y -= 1;
+        held = held + cost[y];
+        if bound < held {
+            count += 1;
+            held = cost[y];
+        }
+        after[y] = count as u16;
+    }
 }
 
 // The interval of position p, by the first n of the starts.

@@ -1,20 +1,21 @@
 -- The lists of a rung's edges say what the graph's own edges say of the clusters.
-use Prim.Native.Nat.{ℕ, _≤_, _<_}
+use Prim.Native.Nat.{ℕ, suc, _+_, _*_, _≤_, _<_}
 use mathlib.Core.Path.{_≡_, refl, sym, ap, _∙_}
 use mathlib.Core.Bool.{Bool, true, false, not, _&&_}
 use mathlib.Core.List.{List}
+use native.Mathlib.Nat.{mul-le-mul-right}
 use native.Mathlib.Omega.{arith}
 use lib.Dec.{eqb}
 use lib.ListN.{length, getD}
 use borrow.Author.Tests.{ne-eqb}
 use Rattle.folds.specs.Fold.{when, sumTo}
 use Rattle.folds.proofs.Cases.{eq-or-ne, either, same-test}
-use Rattle.folds.proofs.Lists.{length-listTo}
+use Rattle.folds.proofs.Lists.{length-listTo, row-in}
 use Rattle.folds.proofs.Sums.{sumTo-ext, sumTo-when, sumTo-only, sumTo-swap}
 use Rattle.graph.specs.Graph.{Graph, graphOf, edges, via, identity, Arcs, arcs, seen, edge, widthOf, Formed, RowOf, Inside}
 use Rattle.graph.specs.Links.{Joins}
 use Rattle.graph.specs.Rung.{rungOf}
-use Rattle.graph.specs.Coarse.{Coarse}
+use Rattle.graph.specs.Coarse.{Coarse, Stored}
 use Rattle.graph.proofs.Edges.{identity-at, row-inside, edge-arc, arc-edge}
 use Rattle.graph.proofs.Rungs.{rung-edge}
 
@@ -120,3 +121,25 @@ module _ {G : Graph} {row : List ℕ} {g : ℕ} {froms tos widths : List ℕ} (C
           let n : via (identity g) froms i ≡ via (identity g) tos i → ⊥ = λ e. C .apart i l (sym (from-is i l) ∙ e ∙ to-is i l) in
           let (j, lj, ef, et) = edge-arc (seen G row) _ _ (sym (coarse-edge (via (identity g) froms i) (via (identity g) tos i)) ∙ arc-edge (arcs (identity g) froms tos) i l n) in
           (j, lj, ef ∙ from-is i l, et ∙ to-is i l)
+
+-- the rows and the lists up to a lower row
+pub rows-held : (r top n l : ℕ) → r ≤ top → suc top * n ≤ l → suc r * n ≤ l
+rows-held r top n l a h = let q : suc r ≤ suc top = omega arith in omega (arith, mul-le-mul-right n q)
+
+pub lower-stored : {G : Graph} {rows : ℕ → List ℕ} {top m : ℕ} {froms tos widths sizes : List ℕ} (r : ℕ) → r ≤ top → Stored G rows top m froms tos widths sizes
+    → Stored G rows r m froms tos widths sizes
+lower-stored {top = top} {m = m} r l S =
+    record {
+      from-room = rows-held r top m _ l (S .from-room);
+      to-room = rows-held r top m _ l (S .to-room);
+      width-room = rows-held r top m _ l (S .width-room);
+      few = λ i h. S .few i (omega arith);
+      is = λ i h. S .is i (omega arith);
+    }
+
+-- the lists of the highest row are in them
+pub stored-held : {G : Graph} {rows : ℕ → List ℕ} {r m : ℕ} {froms tos widths sizes : List ℕ} → Stored G rows r m froms tos widths sizes
+    → (r * m + getD sizes r 0 ≤ length froms) × (r * m + getD sizes r 0 ≤ length tos) × (r * m + getD sizes r 0 ≤ length widths)
+stored-held {r = r} {m = m} S =
+    let q : r * m + m ≤ suc r * m = row-in r (suc r) m (omega arith) in
+    let f = S .few r (omega arith) in (omega (arith, S .from-room), omega (arith, S .to-room), omega (arith, S .width-room))

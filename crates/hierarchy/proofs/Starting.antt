@@ -1,25 +1,22 @@
 -- What is carried of row 0, the vertices themselves.
-use Prim.Native.Nat.{ℕ, suc, _+_, _-_, _*_, _≤_, _<_}
+use Prim.Native.Nat.{ℕ, _+_, _-_, _*_, _≤_}
 use mathlib.Core.Path.{_≡_, refl, sym, ap, _∙_}
 use mathlib.Core.List.{List}
 use native.Mathlib.Omega.{arith}
-use lib.ListN.{length, getD, set, take, drop, length-set}
+use lib.ListN.{length, getD, take, length-set}
 use lib.Seq.{getD-set-same, length-take-le, take-all}
 use Rattle.folds.specs.Fold.{sumTo, put, part}
 use Rattle.folds.proofs.Sums.{sumTo-le}
 use Rattle.folds.proofs.Lists.{getD-past}
 use Rattle.folds.proofs.Slices.{length-put}
 use Rattle.folds.proofs.Parts.{part-put, take-put}
-use Rattle.graph.specs.Graph.{Graph, vertices, edges, identity, arcs, seen, partCost}
-use Rattle.graph.specs.Rows.{clusters}
-use Rattle.graph.specs.Coarse.{Coarse, Stored}
-use Rattle.graph.specs.Links.{Linked, Joins, leave}
+use Rattle.graph.specs.Graph.{Graph, vertices, edges, identity, arcs, seen}
+use Rattle.graph.specs.Coarse.{Coarse}
+use Rattle.graph.specs.Links.{Linked, leave}
 use Rattle.graph.proofs.Edges.{row-inside, identity-row}
-use Rattle.graph.proofs.Coarse.{coarse-joins}
 use Rattle.topology.specs.Order.{orderOf}
 use Rattle.topology.proofs.Orders.{order-all}
 use Rattle.contraction.proofs.Rounds.{identity-clusters}
-use Rattle.matching.specs.Held.{Weights}
 use Rattle.matching.proofs.Lists.{cost-identity}
 use Rattle.row_lists.specs.Carry.{First}
 use Rattle.hierarchy.specs.Built.{rowAt, Carried, Carrying, LinkedAt, Room, Buildable}
@@ -134,14 +131,6 @@ module _ (G : Graph) (k : ℕ) (B : Buildable G k) where
         weighed = record { tall = tall; past = λ c l. h c ∙ getD-past (G .costs) c l; light = λ c. omega (arith, h c, low c) };
         costs = λ c. h c ∙ sym (rw e (cost-identity (G .costs) c));
       }
-
-  -- row 0 as the code hands it on, and its order
-  pub first-handed : (ladder : List ℕ) → rowAt G ladder 0 ≡ identity n → take (n - 0) (drop 0 ladder) ≡ identity n
-  unfolding part
-  first-handed ladder e = let z : 0 * n ≡ 0 = omega arith in let y : n - 0 ≡ n = omega arith in rw y (rw z at e)
-
-  pub first-joins : {row : List ℕ} → row ≡ identity n → sumTo m (λ j. getD (G .widths) j 0) ≤ 67107840 → Joins row (G .starts) (G .ends)
-  first-joins e narrow = rw e (coarse-joins (own-lists narrow) (B .proper .few))
 
   -- the order of the vertices, copied to the front of the orders
   module _ (orders order : List ℕ) {orders′ : List ℕ} (room : 9 * n ≤ length orders) (is : take n order ≡ orderOf (arcs (identity n) (G .starts) (G .ends)) n) (o : orders′ ≡ put orders 0 (take n order)) where

@@ -366,7 +366,7 @@ fn rise(
     r
 }
 
-// Builds the hierarchy, by the order of the vertices: rows 0 to the rounds kept, whose number it answers, with the lists and
+// Builds the hierarchy, by the order of the vertices and the links of their edges: rows 0 to the rounds kept, whose number it answers, with the lists and
 // the order of each.
 // Entries past those rows are left alone.
 pub fn build(
@@ -377,6 +377,8 @@ pub fn build(
     k: usize,
     bound: u32,
     order: &[u16; 512],
+    head: &mut [u16; 513],
+    next: &mut [u16; 1024],
     ladder: &mut [u16],
     froms: &mut [u16],
     tos: &mut [u16],
@@ -387,16 +389,12 @@ pub fn build(
     requires { ⌜ Buildable (graphOf (now costs) (now starts) (now ends) (now widths)) k ⌝ }
     requires { ⌜ Room (graphOf (now costs) (now starts) (now ends) (now widths)) (now ladder) (now froms) (now tos) (now wides) (now sizes) (now orders) ⌝ }
     requires { ⌜ take (length (now costs)) (now order) ≡ orderOf (arcs (identity (length (now costs))) (now starts) (now ends)) (length (now costs)) ⌝ }
-    requires { ⌜ length (now order) ≡ 512 ⌝ }
+    requires { ⌜ (length (now order) ≡ 512) × Linked (leave (arcs (identity (length (now costs))) (now starts) (now ends))) (length (now starts)) (now head) (now next) ⌝ }
     ensures { λ x. ⌜ Built (graphOf (now (costs .entry)) (now (starts .entry)) (now (ends .entry)) (now (widths .entry))) k bound (now (ladder .entry)) (now (ladder .exit)) x ⌝ }
     ensures { λ x. ⌜ Carried (graphOf (now (costs .entry)) (now (starts .entry)) (now (ends .entry)) (now (widths .entry))) (rowAt (graphOf (now (costs .entry)) (now (starts .entry)) (now (ends .entry)) (now (widths .entry))) (now (ladder .exit))) x (now (froms .exit)) (now (tos .exit)) (now (wides .exit)) (now (sizes .exit)) (now (orders .exit)) ⌝ }
 {
     let n = costs.len();
-    let mut head = [0u16; 513];
-    let mut next = [0u16; 1024];
     first_row(&mut ladder[0..n]);
-    let own = &ladder[0..n];
-    graph::fill_leaving(own, starts, ends, &mut head, &mut next);
     row_lists::copy(order, n, orders, 0);
     row_lists::first(starts, ends, widths, froms, tos, wides, sizes);
     rise(
@@ -412,7 +410,7 @@ pub fn build(
         wides,
         sizes,
         orders,
-        &mut head,
-        &mut next,
+        head,
+        next,
     )
 }

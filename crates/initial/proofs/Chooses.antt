@@ -4,14 +4,14 @@ use mathlib.Core.Path.{_≡_, refl, ap, _∙_}
 use mathlib.Core.List.{List}
 use native.Mathlib.Numerals.{add-one}
 use native.Mathlib.Omega.{arith}
-use lib.ListN.{length, take, drop}
+use lib.ListN.{take, drop}
 use Rattle.folds.specs.Fold.{over, part}
 use Rattle.folds.proofs.Lists.{row-in}
 use Rattle.graph.specs.Graph.{Graph, vertices}
+use Rattle.graph.proofs.Coarse.{rows-held}
 use Rattle.division.specs.Division.{Pick, none, some}
 use Rattle.initial.specs.Initial.{Chosen, found, uncut, orLower, highest, initialOf, chosenOf}
 use Rattle.initial.specs.Answers.{foundOf, tableAfter, Answers, initialAs, chosenAfter, Chooses, Lent, Ordered}
-use Rattle.graph.specs.Rows.{rowsIn}
 use Rattle.initial.specs.declared.Initial.{Initial}
 use Rattle.initial.specs.declared.Initial.the-variants.{At, Uncut}
 use Rattle.initial.specs.declared.Found.{Found}
@@ -56,16 +56,20 @@ pub rows-end : (f : ℕ → Pick (List ℕ)) (r : ℕ) {x : Chosen} {old new : L
 unfolding highest
 rows-end f r {x} z e o = let q : x ≡ uncut = e ∙ ap (highest f) z in rw q (record { is = refl; table = o })
 
--- where row r lies, as the code takes it
-pub row-part : (rows : List ℕ) (n r : ℕ) → take (r * n + n - r * n) (drop (r * n) rows) ≡ rowsIn rows n r
+-- a part as the code takes it
+pub row-part : (l : List ℕ) (a n : ℕ) → take (a + n - a) (drop a l) ≡ part l a n
 unfolding part
-row-part rows n r = let q : r * n + n - r * n ≡ n = omega arith in rw q
+row-part l a n = let q : a + n - a ≡ n = omega arith in rw q
 
-pub lent-row : {n k top : ℕ} {rows table : List ℕ} (r : ℕ) → Lent n k top rows table → r ≤ top → r * n + n ≤ length rows
-lent-row {n} {k} {top} r L l = omega (arith, L .long, row-in r (suc top) n (omega arith))
+-- what is lent up to a lower row, and the row itself in it
+pub lower-lent : {n k top : ℕ} {rows sizes table : List ℕ} (r : ℕ) → r ≤ top → Lent n k top rows sizes table → Lent n k r rows sizes table
+lower-lent {n} {top = top} r l L = record { parts = L .parts; few = omega (arith, L .few); nine = L .nine; long = rows-held r top n _ l (L .long); room = L .room }
 
-pub order-row : {G : Graph} {rows : ℕ → List ℕ} {top : ℕ} {orders : List ℕ} (r : ℕ) → Ordered G rows top orders → r ≤ top → r * vertices G + vertices G ≤ length orders
-order-row {G} {top = top} r O l = omega (arith, O .long, row-in r (suc top) (vertices G) (omega arith))
+pub lower-ordered : {G : Graph} {rows : ℕ → List ℕ} {top : ℕ} {orders : List ℕ} (r : ℕ) → r ≤ top → Ordered G rows top orders → Ordered G rows r orders
+lower-ordered {G} {top = top} r l O = record { long = rows-held r top (vertices G) _ l (O .long); is = λ q h. O .is q (omega arith) }
+
+pub row-held : (r n : ℕ) {l : ℕ} → suc r * n ≤ l → r * n + n ≤ l
+row-held r n h = omega (arith, row-in r (suc r) n (omega arith))
 
 -- for a caller: what an answer of `choose` says
 pub chooses-at : {x : Chosen} {old new : List ℕ} {a : Initial} {r c : ℕ} → Chooses x old new a → a ≡ At r c → (t : List ℕ) × (x ≡ found r t c) × (new ≡ over t old)

@@ -1,50 +1,25 @@
 -- What the arrays of the sweep hold, position by position from the last down.
 use Prim.Native.Nat.{ℕ, _+_, _-_, _≤_, _<_}
-use mathlib.Core.Path.{_≡_, refl, ap, sym, _∙_}
+use mathlib.Core.Path.{_≡_, ap, sym, _∙_}
 use mathlib.Core.Bool.{_&&_}
 use mathlib.Core.List.{List}
 use native.Mathlib.Omega.{arith}
-use lib.Dec.{leb, ltb}
+use lib.Dec.{eqb, leb, ltb}
 use lib.ListN.{length, getD, set, length-set}
 use lib.Seq.{getD-set-same, getD-set-other}
-use Rattle.folds.specs.Fold.{when, zeros}
-use Rattle.folds.proofs.Cases.{either, eq-or-ne, when-le}
-use Rattle.folds.proofs.Sums.{sumTo-le}
+use Rattle.folds.specs.Fold.{zeros}
+use Rattle.folds.proofs.Cases.{either, eq-or-ne}
 use Rattle.folds.proofs.Lists.{getD-zeros, length-zeros}
-use Rattle.graph.specs.Graph.{Graph, vertices, edges, via, RowOf, Proper}
-use Rattle.graph.specs.Links.{Ends, Joins}
+use Rattle.graph.specs.Graph.{via}
+use Rattle.division.specs.Division.{between}
 use Rattle.division.specs.Table.{span, within, Weights, Column, Done}
-use Rattle.division.proofs.Intervals.{leaving, outOf, leaving-none, leaving-next, into-next, into-none}
-use Rattle.division.proofs.Spans.{span-between, between-small, span-leaves}
-use Rattle.division.proofs.Tables.{span-mono, span-narrow, span-front, done-next}
-use Rattle.initial.specs.Positions.{Placed, fromTo, startingAt, Room, Gathered, Positioned, leavingBy, awayBy, enteringBy, Aways, Flows, Costs, Tabled}
-use Rattle.initial.proofs.Gathers.{enters-small, enters-end}
-
--- rows that the code can walk
-row-ends : {G : Graph} {g : ℕ} {row ends : List ℕ} → Proper G → g ≤ 512 → RowOf G row g → length ends ≡ edges G → ((j : ℕ) → j < edges G → getD ends j 0 < vertices G) → Ends row ends
-row-ends P l R e inside =
-    record {
-      few = omega (arith, P .many);
-      rows = omega (arith, R .whole, P .few);
-      in-row = λ j h. omega (arith, R .whole, inside j (omega arith));
-      low = λ v h. omega (arith, R .below v (omega (arith, R .whole)));
-    }
-
-pub row-joins : {G : Graph} {g : ℕ} {row : List ℕ} → Proper G → g ≤ 512 → RowOf G row g → Joins row (G .starts) (G .ends)
-row-joins P l R =
-    record {
-      out = row-ends P l R refl (P .formed .start-in);
-      into = row-ends P l R (P .formed .same-ends) (P .formed .end-in);
-      same = P .formed .same-ends;
-    }
-
--- positions as the code takes them
-pub placed-edges : {G : Graph} {g : ℕ} {places : List ℕ} → Proper G → g ≤ 512 → Placed G g places → Positioned places (G .starts) (G .ends) (G .widths) g
-placed-edges P l S =
-    record { joins = row-joins P l (S .row); same = P .formed .same-widths; below = λ j h. S .row .below _ (P .formed .start-in j h); forward = S .forward }
-
-pub positioned-all : {places starts ends widths : List ℕ} {g : ℕ} → g ≤ 512 → Positioned places starts ends widths g → Positioned places starts ends widths 512
-positioned-all l P = record { joins = P .joins; same = P .same; below = λ j h. omega (arith, P .below j h); forward = P .forward }
+use Rattle.division.specs.Fewest.{Before, After}
+use Rattle.division.proofs.Intervals.{leaving, outOf, intoFrom, leaving-none, into-next, into-none}
+use Rattle.division.proofs.Spans.{span-between, span-leaves}
+use Rattle.division.proofs.Tables.{span-mono, span-narrow, span-front}
+use Rattle.division.proofs.Sweeps.{done-next}
+use Rattle.initial.specs.Positions.{fromTo, startingAt, Room, Gathered, Positioned, leavingBy, awayBy, enteringBy, Flows, Costs, Tabled}
+use Rattle.initial.proofs.Gathers.{narrow-part}
 
 -- the cost of all from y - 1 on
 pub rest-next : (cost : List ℕ) {g y rest : ℕ} → 0 < y → y ≤ g → rest ≡ span cost y g → rest + getD cost (y - 1) 0 ≡ span cost (y - 1) g
@@ -55,26 +30,18 @@ pub rest-room : {cost : List ℕ} {g y rest : ℕ} → Costs cost g → 0 < y �
 rest-room {cost} {g} {y} C l h e = omega (arith, rest-next cost l h e, C .light, span-narrow cost 0 (y - 1) g (omega arith))
 
 module _ {places starts ends widths : List ℕ} {g : ℕ} (P : Positioned places starts ends widths g) where
-  -- what leaves an interval is no more than all
-  pub leaving-small : ((k : ℕ) → getD widths k 0 < 65536) → (y x : ℕ) → leavingBy places starts ends widths y x ≤ 67107840
+  -- what leaves an interval, or comes into a position, is no more than all
+  pub leaving-small : (y x : ℕ) → leavingBy places starts ends widths y x ≤ 67107840
   unfolding leavingBy leaving
-  leaving-small n y x =
-      let b = sumTo-le (length starts) 65535 (λ j. when (leb y (via places starts j) && ltb (via places starts j) x && leb x (via places ends j)) (getD widths j 0))
-      (λ j. omega (arith, n j, when-le (leb y (via places starts j) && ltb (via places starts j) x && leb x (via places ends j)) (getD widths j 0))) in
-      omega (arith, b, P .joins .out .few)
+  leaving-small y x = narrow-part widths (λ j. leb y (via places starts j) && ltb (via places starts j) x && leb x (via places ends j)) (P .narrow) (P .same)
 
-  pub entering-small : ((k : ℕ) → getD widths k 0 < 65536) → (y x : ℕ) → enteringBy places starts ends widths y x ≤ 67107840
-  entering-small n y x = omega (arith, enters-small places starts ends widths y x (length starts) n, enters-end places starts ends widths y x refl, P .joins .out .few)
+  pub entering-small : (y x : ℕ) → enteringBy places starts ends widths y x ≤ 67107840
+  unfolding enteringBy intoFrom
+  entering-small y x = narrow-part widths (λ j. leb y (via places starts j) && eqb (via places ends j) x) (P .narrow) (P .same)
 
   pub leaving-first : (y : ℕ) → 0 ≡ leavingBy places starts ends widths y y
   unfolding leavingBy
   leaving-first y = sym (leaving-none (length starts) (via places starts) (via places ends) (λ j. getD widths j 0) y)
-
-  pub leaving-more : {y x out : ℕ} {away : List ℕ} → Aways places starts ends widths (x + 1) 0 away → y ≤ x → out ≡ leavingBy places starts ends widths y x
-      → out + getD away x 0 ≡ leavingBy places starts ends widths y (x + 1) + enteringBy places starts ends widths y x
-  unfolding leavingBy enteringBy awayBy
-  leaving-more {y} {x} A l e =
-      omega (arith, A .outs x (omega arith) (omega arith), leaving-next (length starts) (via places starts) (via places ends) (λ j. getD widths j 0) (P .forward) y x l)
 
   pub flows-none : (away : List ℕ) → length away ≡ 512 → Flows places starts ends widths g g away (zeros 512)
   unfolding enteringBy
@@ -102,8 +69,8 @@ module _ {places starts ends widths : List ℕ} {g : ℕ} (P : Positioned places
       }
 
   -- the widths that come in are no more than all
-  pub flows-room : {y : ℕ} {away into : List ℕ} → Flows places starts ends widths g y away into → ((k : ℕ) → getD widths k 0 < 65536) → Room into
-  flows-room {y} F n = record { tall = F .deep; low = λ x. omega (arith, F .intos x, entering-small n y x) }
+  pub flows-room : {y : ℕ} {away into : List ℕ} → Flows places starts ends widths g y away into → Room into
+  flows-room {y} F = record { tall = F .deep; low = λ x. omega (arith, F .intos x, entering-small y x) }
 
   module _ (y : ℕ) (away into : List ℕ) (F : Flows places starts ends widths g y away into) where
     away-leaves : (x : ℕ) → y ≤ x → x ≤ g → span away y x ≡ leavingBy places starts ends widths y x + span into y x
@@ -111,9 +78,9 @@ module _ {places starts ends widths : List ℕ} {g : ℕ} (P : Positioned places
     away-leaves =
         span-leaves (length starts) (via places starts) (via places ends) (λ j. getD widths j 0) (P .forward) away into y g (F .aways .outs) (λ x _ _. F .intos x)
 
-    flows-weights : (cost : List ℕ) → Costs cost g → ((k : ℕ) → getD widths k 0 < 65536) → Weights g y cost away into
-    unfolding awayBy outOf
-    flows-weights cost C n =
+    flows-weights : (cost : List ℕ) → Costs cost g → Weights g y cost away into
+    unfolding awayBy outOf between
+    flows-weights cost C =
         record {
           tall = C .tall;
           wide = F .aways .wide;
@@ -123,28 +90,28 @@ module _ {places starts ends widths : List ℕ} {g : ℕ} (P : Positioned places
               omega (
                 arith,
                 span-between (length starts) (via places starts) (λ j. getD widths j 0) away y g (F .aways .outs) x l h,
-                P .joins .out .few,
-                between-small (length starts) (via places starts) (λ j. getD widths j 0) y x 65535 (λ j. omega (arith, n j)),
+                narrow-part widths (λ j. leb y (via places starts j) && ltb (via places starts j) x) (P .narrow) (P .same),
               );
           covers = λ x l h. omega (arith, away-leaves x l h);
         }
 
   -- a turn: what the sweep of position y - 1 asks, and what it leaves
-  module _ (bound y : ℕ) (cost away into into′ cuts : List ℕ) (r rest : ℕ) (ly : 0 < y) (lg : y ≤ g) (small : g ≤ 512) (n : (k : ℕ) → getD widths k 0 < 65536)
+  module _ (bound y : ℕ) (cost away into into′ cuts : List ℕ) (r rest : ℕ) (ly : 0 < y) (lg : y ≤ g) (small : g ≤ 512)
       (C : Costs cost g) (F : Flows places starts ends widths g y away into) (R : Gathered places starts ends widths (y - 1) (length starts) into into′ r)
-      {i : ℕ} (few : i ≤ 16) (e : rest ≡ span cost y g) (D : Done i g (within cost bound) (leavingBy places starts ends widths) y cuts) where
+      {i : ℕ} (few : i ≤ 16) (e : rest ≡ span cost y g) {before : List ℕ} (D : Done i g (within cost bound) (leavingBy places starts ends widths) before y cuts) where
     pub turn-flows : Flows places starts ends widths g (y - 1) (set away (y - 1) r) into′
     turn-flows = let q : y ≡ (y - 1) + 1 = omega arith in flows-next (y - 1) away into into′ r (omega arith) (rw q at F) R
 
     pub turn-weights : Weights g (y - 1) cost (set away (y - 1) r) into′
-    turn-weights = flows-weights (y - 1) (set away (y - 1) r) into′ turn-flows cost C n
+    turn-weights = flows-weights (y - 1) (set away (y - 1) r) into′ turn-flows cost C
 
-    pub turn-done : {cuts′ : List ℕ} → Column bound (rest + getD cost (y - 1) 0) (y - 1) i g cost (set away (y - 1) r) into′ cuts cuts′
-        → Done i g (within cost bound) (leavingBy places starts ends widths) (y - 1) cuts′
-    turn-done K =
+    pub turn-done : {after cuts′ : List ℕ} {b a : ℕ} → Before g (within cost bound) before → After g (within cost bound) 0 after → b ≡ getD before (y - 1) 0 → a ≡ getD after (y - 1) 0
+        → Column bound (rest + getD cost (y - 1) 0) (y - 1) i b a g cost (set away (y - 1) r) into′ cuts cuts′
+        → Done i g (within cost bound) (leavingBy places starts ends widths) before (y - 1) cuts′
+    turn-done B A p o K =
         let q : y ≡ (y - 1) + 1 = omega arith in
-        done-next few (omega arith) (rest-next cost ly lg e) (leaving-small n) (away-leaves (y - 1) (set away (y - 1) r) into′ turn-flows) (rw q at D) K
+        done-next few (omega arith) (rest-next cost ly lg e) leaving-small (away-leaves (y - 1) (set away (y - 1) r) into′ turn-flows) B A (rw q at D) (rw (p, o) at K)
 
-pub tabled-end : {n : ℕ} {places starts ends widths cost : List ℕ} {bound g y : ℕ} {away into cuts : List ℕ} → Flows places starts ends widths g y away into
-    → Done n g (within cost bound) (leavingBy places starts ends widths) y cuts → Tabled n places starts ends widths cost bound g y away cuts
-tabled-end F D = record { aways = F .aways; done = D }
+pub tabled-end : {n : ℕ} {places starts ends widths cost before : List ℕ} {bound g y : ℕ} {away into cuts : List ℕ} → Flows places starts ends widths g y away into → Before g (within cost bound) before
+    → Done n g (within cost bound) (leavingBy places starts ends widths) before y cuts → Tabled n places starts ends widths cost bound g y away cuts
+tabled-end {before = before} F B D = record { aways = F .aways; before = before; counts = B; done = D }

@@ -4,6 +4,7 @@ pub mod Gathers
 pub mod Flows
 pub mod Arranges
 pub mod Solves
+pub mod Listed
 pub mod Layers
 pub mod Chooses
 pub mod Follows

@@ -39,10 +39,11 @@ pub record Chooses (x : Chosen) (old new : List ℕ) (r : Initial) : Type 0 wher
   pub is : r ≡ initialAs x
   pub table : new ≡ chosenAfter x old
 
--- rows 0 to top lie in the slice, and the table has an entry for each vertex
-pub record Lent (n k top : ℕ) (rows table : List ℕ) : Type 0 where
+-- rows 0 to top lie in the slice, with the sizes of their lists, and the table has an entry for each vertex
+pub record Lent (n k top : ℕ) (rows sizes table : List ℕ) : Type 0 where
   pub parts : (0 < k) × (k ≤ 16)
   pub few : top < 9
+  pub nine : length sizes ≡ 9
   pub long : suc top * n ≤ length rows
   pub room : n ≤ length table
 

@@ -3,14 +3,16 @@ use Prim.Native.Nat.{ℕ, _+_, _≤_, _<_}
 use mathlib.Core.Path.{_≡_}
 use mathlib.Core.Bool.{_&&_}
 use mathlib.Core.List.{List}
-use lib.Dec.{eqb, leb}
+use lib.Dec.{eqb}
 use lib.ListN.{length, getD}
 use Rattle.folds.specs.Fold.{when, sumTo}
 use Rattle.graph.specs.Walk.{Acyclic}
 use Rattle.graph.specs.Graph.{Graph, vertices, edges, via, seen, Edge, RowOf}
 use Rattle.graph.specs.Rows.{clusters}
 use Rattle.graph.specs.Links.{Joins}
+use Rattle.graph.specs.Coarse.{Narrow}
 use Rattle.division.specs.Table.{span, within, Done}
+use Rattle.division.specs.Fewest.{Before}
 use Rattle.division.proofs.Intervals.{leaving, outOf, intoFrom}
 
 -- positions: a row in which no position is empty and every edge goes forward
@@ -47,6 +49,7 @@ pub record Gathered (places starts ends widths : List ℕ) (y j : ℕ) (into int
 pub record Positioned (places starts ends widths : List ℕ) (g : ℕ) : Type 0 where
   pub joins : Joins places starts ends
   pub same : length widths ≡ length starts
+  pub narrow : Narrow widths
   pub below : (j : ℕ) → j < length starts → via places starts j < g
   pub forward : (j : ℕ) → j < length starts → via places starts j ≤ via places ends j
 
@@ -63,10 +66,10 @@ awayBy places starts ends widths = outOf (length starts) (via places starts) (vi
 unfoldable pub enteringBy : List ℕ → List ℕ → List ℕ → List ℕ → ℕ → ℕ → ℕ
 enteringBy places starts ends widths = intoFrom (length starts) (via places starts) (via places ends) (λ j. getD widths j 0)
 
--- r is the width of edge j if it starts at y or later
-pub record From (places starts widths : List ℕ) (y j r : ℕ) : Type 0 where
-  pub is : r ≡ when (leb y (via places starts j)) (getD widths j 0)
-  pub low : r < 65536
+-- what comes into each position from those of y to x - 1
+pub record Brought (places starts ends widths : List ℕ) (y x : ℕ) (into : List ℕ) : Type 0 where
+  pub deep : length into ≡ 512
+  pub is : (z : ℕ) → getD into z 0 + enteringBy places starts ends widths x z ≡ enteringBy places starts ends widths y z
 
 -- what leaves each position from y on
 pub record Aways (places starts ends widths : List ℕ) (g y : ℕ) (away : List ℕ) : Type 0 where
@@ -87,7 +90,9 @@ pub record Costs (cost : List ℕ) (g : ℕ) : Type 0 where
 -- the least cuts that a division with n starts can have are known from position y on
 pub record Tabled (n : ℕ) (places starts ends widths cost : List ℕ) (bound g y : ℕ) (away cuts : List ℕ) : Type 0 where
   pub aways : Aways places starts ends widths g y away
-  pub done : Done n g (within cost bound) (leavingBy places starts ends widths) y cuts
+  pub before : List ℕ
+  pub counts : Before g (within cost bound) before
+  pub done : Done n g (within cost bound) (leavingBy places starts ends widths) before y cuts
 
 -- one row of a hierarchy: no cluster is empty, and they form no cycle
 pub record Layer (G : Graph) (row : List ℕ) : Type 0 where

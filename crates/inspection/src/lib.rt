@@ -71,7 +71,9 @@ fn check_cycles(starts: &[u16], ends: &[u16], parts: &[u16], k: usize) -> Verdic
     ensures { λ r. ⌜ r ≡ cyclesFrom (now (starts .entry)) (now (ends .entry)) k (now (parts .entry)) ⌝ }
 {
     let mut taken = [0u16; 512];
-    let u = topology::lowest_on_cycle(parts, starts, ends, k, &mut taken);
+    let mut head = [0u16; 513];
+    let mut next = [0u16; 1024];
+    let u = topology::lowest_on_cycle(parts, starts, ends, k, &mut taken, &mut head, &mut next);
     if u < k {
         return Verdict::Refused(Cause::PartCycle, u);
     }
@@ -152,7 +154,21 @@ pub fn inspect(
     let n = costs.len();
     let room = enough(table.len(), n, order.len(), k);
     let mut taken = [0u16; 512];
-    let checked = validity::check(512, costs, starts, ends, widths, k, bound, room, &mut taken);
+    let mut head = [0u16; 513];
+    let mut next = [0u16; 1024];
+    let checked = validity::check(
+        512,
+        costs,
+        starts,
+        ends,
+        widths,
+        k,
+        bound,
+        room,
+        &mut taken,
+        &mut head,
+        &mut next,
+    );
     if let Verdict::Refused(cause, place) = checked {
         return Inspected::Failed(cause, place);
     }

@@ -18,6 +18,7 @@ use Rattle.graph.proofs.Edges.{row-inside, identity-row}
 use Rattle.topology.specs.Order.{orderOf}
 use Rattle.topology.proofs.Orders.{order-all}
 use Rattle.graph.specs.Coarse.{Stored}
+use Rattle.graph.proofs.Coarse.{lower-stored}
 use Rattle.graph.specs.Rows.{Hierarchy}
 use Rattle.validity.specs.Cause.{refusal}
 use Rattle.validity.specs.Check.{checked, Valid}
@@ -43,7 +44,6 @@ use Rattle.moves.specs.Entries.{stateOf, Good}
 use Rattle.moves.specs.Pass.{refined}
 use Rattle.moves.proofs.Claims.{refined-good}
 use Rattle.refine.specs.Down.{Descends, Refined}
-use Rattle.refine.proofs.Down.{lower-stored}
 use Rattle.refine.specs.declared.Outcome.{Outcome}
 use Rattle.partition.specs.Phases.{Result, nothing, parted, firstOf, resultOf}
 use Rattle.partition.specs.Split.{answerBy, innerOf, valuesOf, roomFor, verdictOf, splitOf, tableAfter, ladderLeft, Works}
@@ -114,10 +114,10 @@ module _ (G : Graph) (k bound : ℕ) (S : Sound G k bound) where
     pub choose-hierarchy : Hierarchy G (rowsIn ladder′ (vertices G)) rounds
     choose-hierarchy = part-hierarchy rounds (omega arith)
 
-    pub choose-lent : Lent (vertices G) k rounds ladder′ table
-    choose-lent = record { parts = (S .some, S .few); few = omega (arith, few, B .kept-is); long = held rounds (omega arith); room = lt }
+    -- what was carried, as the second phase asks for it
+    pub choose-lent : {froms tos widths sizes orders : List ℕ} → Carried G (rowAt G ladder′) rounds froms tos widths sizes orders → Lent (vertices G) k rounds ladder′ sizes table
+    choose-lent D = record { parts = (S .some, S .few); few = omega (arith, few, B .kept-is); nine = D .nine; long = held rounds (omega arith); room = lt }
 
-    -- the orders that were carried, as the second phase asks for them
     pub choose-orders : {froms tos widths sizes orders : List ℕ} → Carried G (rowAt G ladder′) rounds froms tos widths sizes orders → Ordered G (rowsIn ladder′ (vertices G)) rounds orders
     choose-orders D = record { long = D .long; is = D .order }
 
@@ -189,7 +189,7 @@ module _ (G : Graph) (k bound : ℕ) (table ladder : List ℕ) (room : Bool) (v 
     sound = valid-sound G k bound (valid .0)
 
     -- the order that the checks left
-    pub ordered : {order order′ : List ℕ} → length order ≡ 512 → OrderLeft v (vertices G) (G .starts) (G .ends) order order′
+    pub ordered : {order order′ head next : List ℕ} → length order ≡ 512 → OrderLeft v (vertices G) (G .starts) (G .ends) order order′ head next
         → (take (vertices G) order′ ≡ orderOf (seen G (identity (vertices G))) (vertices G)) × (length order′ ≡ 512)
     ordered {order} t O =
         let o = orderOf (seen G (identity (vertices G))) (vertices G) in

@@ -5,6 +5,7 @@ ghost use lib.ListN.{length, take};
 ghost use lib.Dec.{leb};
 ghost use mathlib.Core.Bool.{_&&_};
 ghost use Rattle.graph.specs.Graph.{graphOf, identity, arcs};
+ghost use Rattle.graph.specs.Links.{Linked, leave};
 ghost use Rattle.topology.specs.Order.{orderOf};
 ghost use Rattle.validity.specs.Sound.{Sound};
 ghost use Rattle.partition.specs.Split.{answerOf, splitOf, tableAfter, ladderLeft, Works};
@@ -43,6 +44,8 @@ fn phases(
     k: usize,
     bound: u32,
     order: &[u16; 512],
+    head: &mut [u16; 513],
+    next: &mut [u16; 1024],
     table: &mut [u16],
     ladder: &mut [u16],
     froms: &mut [u16],
@@ -54,6 +57,7 @@ fn phases(
     requires { ⌜ (length (now costs) ≤ length (now table)) × (9 * length (now costs) ≤ length (now ladder)) ⌝ }
     requires { ⌜ (9 * length (now starts) ≤ length (now froms)) × (9 * length (now starts) ≤ length (now tos)) × (9 * length (now starts) ≤ length (now wides)) × (9 * length (now costs) ≤ length (now orders)) ⌝ }
     requires { ⌜ (take (length (now costs)) (now order) ≡ orderOf (arcs (identity (length (now costs))) (now starts) (now ends)) (length (now costs))) × (length (now order) ≡ 512) ⌝ }
+    requires { ⌜ Linked (leave (arcs (identity (length (now costs))) (now starts) (now ends))) (length (now starts)) (now head) (now next) ⌝ }
     ensures { λ r. ⌜ Works (graphOf (now (costs .entry)) (now (starts .entry)) (now (ends .entry)) (now (widths .entry))) k bound (now (table .entry)) (now (ladder .entry)) (now (table .exit)) (now (ladder .exit)) r ⌝ }
 {
     let mut sizes = [0; 9];
@@ -65,6 +69,8 @@ fn phases(
         k,
         bound,
         order,
+        head,
+        next,
         ladder,
         froms,
         tos,
@@ -79,6 +85,10 @@ fn phases(
         widths,
         ladder,
         orders,
+        froms,
+        tos,
+        wides,
+        &sizes,
         rounds,
         k,
         bound,
@@ -114,12 +124,15 @@ fn partition(
     k: usize,
     bound: u32,
     order: &[u16; 512],
+    head: &mut [u16; 513],
+    next: &mut [u16; 1024],
     table: &mut [u16],
     ladder: &mut [u16],
 ) -> Inner
     requires { ⌜ Sound (graphOf (now costs) (now starts) (now ends) (now widths)) k bound ⌝ }
     requires { ⌜ (length (now costs) ≤ length (now table)) × (9 * length (now costs) ≤ length (now ladder)) ⌝ }
     requires { ⌜ (take (length (now costs)) (now order) ≡ orderOf (arcs (identity (length (now costs))) (now starts) (now ends)) (length (now costs))) × (length (now order) ≡ 512) ⌝ }
+    requires { ⌜ Linked (leave (arcs (identity (length (now costs))) (now starts) (now ends))) (length (now starts)) (now head) (now next) ⌝ }
     ensures { λ r. ⌜ Works (graphOf (now (costs .entry)) (now (starts .entry)) (now (ends .entry)) (now (widths .entry))) k bound (now (table .entry)) (now (ladder .entry)) (now (table .exit)) (now (ladder .exit)) r ⌝ }
 {
     let mut orders = [0; 4608];
@@ -136,6 +149,8 @@ fn partition(
             k,
             bound,
             order,
+            head,
+            next,
             table,
             ladder,
             &mut froms,
@@ -155,6 +170,8 @@ fn partition(
         k,
         bound,
         order,
+        head,
+        next,
         table,
         ladder,
         &mut froms,
@@ -181,11 +198,38 @@ pub fn split(
 {
     let room = enough(costs.len(), table.len(), ladder.len());
     let mut order = [0u16; 512];
-    let checked = validity::check(512, costs, starts, ends, widths, k, bound, room, &mut order);
+    let mut head = [0u16; 513];
+    let mut next = [0u16; 1024];
+    let checked = validity::check(
+        512,
+        costs,
+        starts,
+        ends,
+        widths,
+        k,
+        bound,
+        room,
+        &mut order,
+        &mut head,
+        &mut next,
+    );
     if let Verdict::Refused(cause, place) = checked {
         return Partitioned::Failed(cause, place);
     }
-    match partition(costs, starts, ends, widths, k, bound, &order, table, ladder) {
+    let inner = partition(
+        costs,
+        starts,
+        ends,
+        widths,
+        k,
+        bound,
+        &order,
+        &mut head,
+        &mut next,
+        table,
+        ladder,
+    );
+    match inner {
         Inner::Found(cut, rounds, rung, moves) => Partitioned::Parted(cut, rounds, rung, moves),
         Inner::Nothing => Partitioned::Failed(Cause::Uncut, 0),
     }

@@ -1,18 +1,15 @@
 -- Down the rungs, one row at a time.
-use Prim.Native.Nat.{ℕ, zero, suc, _+_, _-_, _*_, _≤_, _<_, _^_}
+use Prim.Native.Nat.{ℕ, zero, suc, _+_, _-_, _≤_, _<_, _^_}
 use mathlib.Core.Path.{_≡_, refl, sym, ap, subst, _∙_}
 use mathlib.Core.List.{List, _++_}
-use native.Mathlib.Nat.{mul-le-mul-right}
 use native.Mathlib.Omega.{arith}
 use lib.ListN.{length, getD, take, drop}
 use lib.Seq.{take-at}
 use Rattle.folds.specs.Fold.{over, part}
 use Rattle.folds.proofs.Sums.{sumTo-le}
-use Rattle.folds.proofs.Lists.{row-in}
 use Rattle.graph.specs.Graph.{Graph, vertices, edges, seen, crossing, cut, cutOf, Proper}
 use Rattle.graph.specs.Links.{Joins}
 use Rattle.graph.specs.Rows.{Hierarchy, rowsIn}
-use Rattle.graph.specs.Coarse.{Stored}
 use Rattle.graph.proofs.Edges.{crossing-le}
 use Rattle.counts.specs.Totals.{Keyed}
 use Rattle.counts.proofs.Totals.{proper-joins}
@@ -98,28 +95,7 @@ module _ (G : Graph) (P : Proper G) (k bound : ℕ) (few : k ≤ 16) (rows : ℕ
     unfolding refinedBelow
     descent-end e = rw e at (x .rest)
 
--- the rows and the lists up to a lower rung
-pub rows-held : (r rung n l : ℕ) → r ≤ rung → suc rung * n ≤ l → suc r * n ≤ l
-rows-held r rung n l a h = let q : suc r ≤ suc rung = omega arith in omega (arith, mul-le-mul-right n q)
-
-pub lower-stored : {G : Graph} {rows : ℕ → List ℕ} {top m : ℕ} {froms tos widths sizes : List ℕ} (r : ℕ) → r ≤ top → Stored G rows top m froms tos widths sizes
-    → Stored G rows r m froms tos widths sizes
-lower-stored {top = top} {m = m} r l S =
-    record {
-      from-room = rows-held r top m _ l (S .from-room);
-      to-room = rows-held r top m _ l (S .to-room);
-      width-room = rows-held r top m _ l (S .width-room);
-      few = λ i h. S .few i (omega arith);
-      is = λ i h. S .is i (omega arith);
-    }
-
--- the lists of the highest row are in them
-pub stored-held : {G : Graph} {rows : ℕ → List ℕ} {r m : ℕ} {froms tos widths sizes : List ℕ} → Stored G rows r m froms tos widths sizes
-    → (r * m + getD sizes r 0 ≤ length froms) × (r * m + getD sizes r 0 ≤ length tos) × (r * m + getD sizes r 0 ≤ length widths)
-stored-held {r = r} {m = m} S =
-    let q : r * m + m ≤ suc r * m = row-in r (suc r) m (omega arith) in
-    let f = S .few r (omega arith) in (omega (arith, S .from-room), omega (arith, S .to-room), omega (arith, S .width-room))
-
+-- a part as the code takes it
 pub row-part : (l : List ℕ) (a n : ℕ) → take (a + n - a) (drop a l) ≡ part l a n
 unfolding part
 row-part l a n = let e : a + n - a ≡ n = omega arith in rw e

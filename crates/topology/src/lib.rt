@@ -290,18 +290,24 @@ fn is_on_cycle(
 }
 
 // The lowest of g clusters from which a walk comes back, or g.
-fn search_cycle(row: &[u16], starts: &[u16], ends: &[u16], aside: &[u8; 512], g: usize) -> usize
+fn search_cycle(
+    row: &[u16],
+    starts: &[u16],
+    ends: &[u16],
+    head: &[u16; 513],
+    next: &[u16; 1024],
+    aside: &[u8; 512],
+    g: usize,
+) -> usize
     requires { ⌜ Joins (now row) (now starts) (now ends) ⌝ }
+    requires { ⌜ Linked (leave (arcs (now row) (now starts) (now ends))) (length (now starts)) (now head) (now next) ⌝ }
     requires { ⌜ Inside (arcs (now row) (now starts) (now ends)) g × OffCycles (arcs (now row) (now starts) (now ends)) g (now aside) ⌝ }
     requires { ⌜ g ≤ 512 ⌝ }
     ensures { λ r. ⌜ r ≡ lowestOnCycle (arcs (now (row .entry)) (now (starts .entry)) (now (ends .entry))) g ⌝ }
 {
-    let mut head = [0u16; 513];
-    let mut next = [0u16; 1024];
-    graph::fill_leaving(row, starts, ends, &mut head, &mut next);
     let mut v: usize = 0;
     while v < g {
-        if is_on_cycle(row, starts, ends, &head, &next, aside, g, v) {
+        if is_on_cycle(row, starts, ends, head, next, aside, g, v) {
             return v;
         }
         v += 1;
@@ -329,11 +335,14 @@ fn search_rest(
     row: &[u16],
     starts: &[u16],
     ends: &[u16],
+    head: &[u16; 513],
+    next: &[u16; 1024],
     g: usize,
     taken: &[u16; 512],
     count: usize,
 ) -> usize
     requires { ⌜ Joins (now row) (now starts) (now ends) ⌝ }
+    requires { ⌜ Linked (leave (arcs (now row) (now starts) (now ends))) (length (now starts)) (now head) (now next) ⌝ }
     requires { ⌜ Inside (arcs (now row) (now starts) (now ends)) g × (g ≤ 512) ⌝ }
     requires { ⌜ Ordering (arcs (now row) (now starts) (now ends)) g (now taken) count ⌝ }
     ensures { λ r. ⌜ r ≡ lowestOnCycle (arcs (now (row .entry)) (now (starts .entry)) (now (ends .entry))) g ⌝ }
@@ -343,27 +352,31 @@ fn search_rest(
     let mut aside = [0u8; 512];
     set_aside(taken, count, &mut aside);
     set_aside(&turned, back, &mut aside);
-    search_cycle(row, starts, ends, &aside, g)
+    search_cycle(row, starts, ends, head, next, &aside, g)
 }
 
 // The lowest of g clusters that lies on a cycle, or g: the search runs only where the order does not take all.
-// The order is left in the front of `taken`.
+// The order is left in the front of `taken`, and the links of the edges that leave each cluster in `head` and `next`.
 pub fn lowest_on_cycle(
     row: &[u16],
     starts: &[u16],
     ends: &[u16],
     g: usize,
     taken: &mut [u16; 512],
+    head: &mut [u16; 513],
+    next: &mut [u16; 1024],
 ) -> usize
     requires { ⌜ Joins (now row) (now starts) (now ends) ⌝ }
     requires { ⌜ Inside (arcs (now row) (now starts) (now ends)) g ⌝ }
-    requires { ⌜ (g ≤ 512) × (length (now taken) ≡ 512) ⌝ }
+    requires { ⌜ (g ≤ 512) × (length (now taken) ≡ 512) × (length (now next) ≡ 1024) ⌝ }
     ensures { λ r. ⌜ r ≡ lowestOnCycle (arcs (now (row .entry)) (now (starts .entry)) (now (ends .entry))) g ⌝ }
     ensures { λ _. ⌜ now (taken .exit) ≡ over (orderOf (arcs (now (row .entry)) (now (starts .entry)) (now (ends .entry))) g) (now (taken .entry)) ⌝ }
+    ensures { λ _. ⌜ Linked (leave (arcs (now (row .entry)) (now (starts .entry)) (now (ends .entry)))) (length (now (starts .entry))) (now (head .exit)) (now (next .exit)) ⌝ }
 {
-    let count = order(row, starts, ends, g, taken);
+    graph::fill_leaving(row, starts, ends, head, next);
+    let count = order_by(row, starts, ends, head, next, g, taken);
     if count == g {
         return g;
     }
-    search_rest(row, starts, ends, g, taken, count)
+    search_rest(row, starts, ends, head, next, g, taken, count)
 }

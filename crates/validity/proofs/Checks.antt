@@ -14,7 +14,7 @@ use Rattle.folds.proofs.Searches.{firstTo-le, firstTo-none}
 use Rattle.folds.proofs.Slices.{take-over}
 use Rattle.folds.proofs.Lists.{length-listTo}
 use Rattle.graph.specs.Graph.{identity, arcs, Inside}
-use Rattle.graph.specs.Links.{Joins}
+use Rattle.graph.specs.Links.{Joins, Linked, leave}
 use Rattle.graph.proofs.Edges.{identity-at}
 use Rattle.topology.specs.Reach.{lowestOnCycle}
 use Rattle.topology.specs.Order.{orderOf}
@@ -119,8 +119,9 @@ unfolding over identity
 identity-room n row l e = rw (e, length-append, length-listTo) (omega arith)
 
 -- a refusal leaves no order
-pub refused-order : {cause : Cause} {place n : ℕ} {starts ends old new : List ℕ} → OrderLeft (Refused cause place) n starts ends old new
-refused-order = record { order = λ e. let z : _≡_ {A = ℕ} 0 1 = cc in absurd (omega arith) }
+pub refused-order : {cause : Cause} {place n : ℕ} {starts ends old new head next : List ℕ} → OrderLeft (Refused cause place) n starts ends old new head next
+refused-order = record { order = λ e. let z : _≡_ {A = ℕ} 0 1 = cc in absurd (omega arith); linked = λ e. let z : _≡_ {A = ℕ} 0 1 = cc in absurd (omega arith) }
 
-pub row-order : {r : Verdict} {n : ℕ} (row : List ℕ) {starts ends old new : List ℕ} → row ≡ identity n → new ≡ over (orderOf (arcs row starts ends) n) old → OrderLeft r n starts ends old new
-row-order row e o = record { order = λ _. rw e at o }
+pub row-order : {r : Verdict} {n : ℕ} (row : List ℕ) {starts ends old new head next : List ℕ} → row ≡ identity n → new ≡ over (orderOf (arcs row starts ends) n) old
+    → Linked (leave (arcs row starts ends)) (length starts) head next → OrderLeft r n starts ends old new head next
+row-order row e o L = record { order = λ _. rw e at o; linked = λ _. rw e at L }

@@ -5,6 +5,7 @@ use mathlib.Core.List.{List}
 use lib.ListN.{length, getD}
 use Rattle.folds.specs.Fold.{over}
 use Rattle.graph.specs.Graph.{identity, arcs}
+use Rattle.graph.specs.Links.{Linked, leave}
 use Rattle.topology.specs.Order.{orderOf}
 use Rattle.validity.specs.declared.Verdict.{Verdict}
 use Rattle.validity.specs.declared.Verdict.the-variants.{Passed}
@@ -18,6 +19,7 @@ pub record Fits (row starts ends : List ℕ) : Type 0 where
   pub start-in : (j : ℕ) → j < length starts → getD starts j 0 < length row
   pub end-in : (j : ℕ) → j < length starts → getD ends j 0 < length row
 
--- where the checks pass, the topological order of the n vertices stands in the front of the list
-pub record OrderLeft (r : Verdict) (n : ℕ) (starts ends old new : List ℕ) : Type 0 where
+-- where the checks pass, the topological order of the n vertices stands in the front of the list, and the edges are linked by their starts
+pub record OrderLeft (r : Verdict) (n : ℕ) (starts ends old new head next : List ℕ) : Type 0 where
   pub order : r ≡ Passed → new ≡ over (orderOf (arcs (identity n) starts ends) n) old
+  pub linked : r ≡ Passed → Linked (leave (arcs (identity n) starts ends)) (length starts) head next

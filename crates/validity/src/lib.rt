@@ -212,33 +212,47 @@ pub fn find_repeat(row: &[u16], starts: &[u16], ends: &[u16]) -> Repeated
 }
 
 // Checks 7 and 8, on the vertices' own row.
-fn check_row(row: &[u16], starts: &[u16], ends: &[u16], order: &mut [u16; 512]) -> Verdict
+fn check_row(
+    row: &[u16],
+    starts: &[u16],
+    ends: &[u16],
+    order: &mut [u16; 512],
+    head: &mut [u16; 513],
+    next: &mut [u16; 1024],
+) -> Verdict
     requires { ⌜ Fits (now row) (now starts) (now ends) ⌝ }
-    requires { ⌜ length (now order) ≡ 512 ⌝ }
+    requires { ⌜ (length (now order) ≡ 512) × (length (now next) ≡ 1024) ⌝ }
     ensures { λ r. ⌜ r ≡ repeatsFrom (length (now (row .entry))) (now (starts .entry)) (now (ends .entry)) ⌝ }
-    ensures { λ r. ⌜ OrderLeft r (length (now (row .entry))) (now (starts .entry)) (now (ends .entry)) (now (order .entry)) (now (order .exit)) ⌝ }
+    ensures { λ r. ⌜ OrderLeft r (length (now (row .entry))) (now (starts .entry)) (now (ends .entry)) (now (order .entry)) (now (order .exit)) (now (head .exit)) (now (next .exit)) ⌝ }
 {
     let found = find_repeat(row, starts, ends);
     let j = found.place;
     if j < starts.len() {
         return Verdict::Refused(Cause::Repeat, j);
     }
-    let v = topology::lowest_on_cycle(row, starts, ends, row.len(), order);
+    let v = topology::lowest_on_cycle(row, starts, ends, row.len(), order, head, next);
     if v < row.len() {
         return Verdict::Refused(Cause::Cycle, v);
     }
     Verdict::Passed
 }
 
-fn check_repeats(n: usize, starts: &[u16], ends: &[u16], order: &mut [u16; 512]) -> Verdict
+fn check_repeats(
+    n: usize,
+    starts: &[u16],
+    ends: &[u16],
+    order: &mut [u16; 512],
+    head: &mut [u16; 513],
+    next: &mut [u16; 1024],
+) -> Verdict
     requires { ⌜ Fits (identity n) (now starts) (now ends) ⌝ }
-    requires { ⌜ length (now order) ≡ 512 ⌝ }
+    requires { ⌜ (length (now order) ≡ 512) × (length (now next) ≡ 1024) ⌝ }
     ensures { λ r. ⌜ r ≡ repeatsFrom n (now (starts .entry)) (now (ends .entry)) ⌝ }
-    ensures { λ r. ⌜ OrderLeft r n (now (starts .entry)) (now (ends .entry)) (now (order .entry)) (now (order .exit)) ⌝ }
+    ensures { λ r. ⌜ OrderLeft r n (now (starts .entry)) (now (ends .entry)) (now (order .entry)) (now (order .exit)) (now (head .exit)) (now (next .exit)) ⌝ }
 {
     let mut row = [0u16; 512];
     fill_identity(&mut row, n);
-    check_row(&row[0..n], starts, ends, order)
+    check_row(&row[0..n], starts, ends, order, head, next)
 }
 
 // Checks 5 to 8.
@@ -249,11 +263,13 @@ fn check_costs(
     widths: &[u16],
     bound: u32,
     order: &mut [u16; 512],
+    head: &mut [u16; 513],
+    next: &mut [u16; 1024],
 ) -> Verdict
     requires { ⌜ (length (now costs) ≤ 512) × (length (now starts) ≤ 1024) ⌝ }
-    requires { ⌜ (length (now ends) ≡ length (now starts)) × (length (now widths) ≡ length (now starts)) × (length (now order) ≡ 512) ⌝ }
+    requires { ⌜ (length (now ends) ≡ length (now starts)) × (length (now widths) ≡ length (now starts)) × (length (now order) ≡ 512) × (length (now next) ≡ 1024) ⌝ }
     ensures { λ r. ⌜ r ≡ costsFrom (graphOf (now (costs .entry)) (now (starts .entry)) (now (ends .entry)) (now (widths .entry))) bound ⌝ }
-    ensures { λ r. ⌜ OrderLeft r (length (now (costs .entry))) (now (starts .entry)) (now (ends .entry)) (now (order .entry)) (now (order .exit)) ⌝ }
+    ensures { λ r. ⌜ OrderLeft r (length (now (costs .entry))) (now (starts .entry)) (now (ends .entry)) (now (order .entry)) (now (order .exit)) (now (head .exit)) (now (next .exit)) ⌝ }
 {
     let v = bad_cost(costs, bound);
     if v < costs.len() {
@@ -263,11 +279,11 @@ fn check_costs(
     if j < starts.len() {
         return Verdict::Refused(Cause::Ends, j);
     }
-    check_repeats(costs.len(), starts, ends, order)
+    check_repeats(costs.len(), starts, ends, order, head, next)
 }
 
 // Checks 1 to 8: at most `most` vertices; `room` is the caller's verdict of check 4. Where they pass, the topological order
-// of the vertices is left in the front of `order`.
+// of the vertices is left in the front of `order`, and the links of the edges from each in `head` and `next`.
 pub fn check(
     most: usize,
     costs: &[u16],
@@ -278,10 +294,12 @@ pub fn check(
     bound: u32,
     room: bool,
     order: &mut [u16; 512],
+    head: &mut [u16; 513],
+    next: &mut [u16; 1024],
 ) -> Verdict
-    requires { ⌜ (most ≤ 512) × (length (now order) ≡ 512) ⌝ }
+    requires { ⌜ (most ≤ 512) × (length (now order) ≡ 512) × (length (now next) ≡ 1024) ⌝ }
     ensures { λ r. ⌜ r ≡ checked most (graphOf (now (costs .entry)) (now (starts .entry)) (now (ends .entry)) (now (widths .entry))) k bound room ⌝ }
-    ensures { λ r. ⌜ OrderLeft r (length (now (costs .entry))) (now (starts .entry)) (now (ends .entry)) (now (order .entry)) (now (order .exit)) ⌝ }
+    ensures { λ r. ⌜ OrderLeft r (length (now (costs .entry))) (now (starts .entry)) (now (ends .entry)) (now (order .entry)) (now (order .exit)) (now (head .exit)) (now (next .exit)) ⌝ }
 {
     if bad_vertices(most, costs.len()) {
         return Verdict::Refused(Cause::Vertices, 0);
@@ -295,5 +313,5 @@ pub fn check(
     if !room {
         return Verdict::Refused(Cause::Room, 0);
     }
-    check_costs(costs, starts, ends, widths, bound, order)
+    check_costs(costs, starts, ends, widths, bound, order, head, next)
 }

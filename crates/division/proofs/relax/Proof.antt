@@ -18,17 +18,17 @@ pub relax-spec : {M : Type 1} → statement M
 relax-spec =
     tie.close
     (tie.spec Inv-loop μ-loop
-    (λ c. (omega arith, relaxed-none (c .pre .1 .1 .3)))
+    (λ c. (omega arith, relaxed-none (c .before .pre .1 .1 .3)))
     (λ c. search needs)
     (λ c. search needs)
     (λ c. search needs)
     (λ c. search needs)
     (λ c. search needs)
-    (λ c κs. let p = c .before .before .before .before .pre in let l = c .before .before .before .loop in
-    (relaxed-low (p .1 .0) (l .inv .1) .low (l .j), p .1 .1 .1, p .0 .low (c .before .before .before .before .args .at + l .j)))
+    (λ c κs. let s = c .before .before .before .before .before in let p = s .pre in let l = c .before .before .before .loop in
+    (relaxed-low (p .1 .0) (l .inv .1) .low (l .j), p .1 .1 .1, p .0 .low (s .args .at + l .j)))
     (λ c. search needs)
     (λ c. search needs)
     (λ c. search needs)
     (λ c. search needs)
     (λ c. let l = c .before .before .before .before .loop in (omega arith, relaxed-turn (omega arith) (l .inv .1) (c .keep .ensures)))
-    (λ c. let e : c .before .loop .j ≡ c .before .before .args .n = omega arith in rw e at (c .before .loop .inv .1)))
+    (λ c. let e : c .before .loop .j ≡ c .before .before .before .args .n = omega arith in rw e at (c .before .loop .inv .1)))

@@ -18,7 +18,7 @@ pub store-spec : {M : Type 1} → statement M
 store-spec =
     tie.close
     (tie.spec Inv-loop μ-loop
-    (λ c. (omega arith, stored-none (c .pre .1 .0 .low)))
+    (λ c. (omega arith, stored-none (c .pre .1 .0)))
     (λ c. search needs)
     (λ c. search needs)
     (λ c. search needs)
@@ -28,5 +28,6 @@ store-spec =
     (λ c. search needs)
     (λ c. search needs)
     (λ c. let p = c .before .before .before .pre in
-    (omega arith, stored-turn (p .0) (p .1 .0) (p .1 .1 .0) (omega arith) (c .before .before .loop .inv .1)))
+    (omega arith, stored-turn (p .0) (omega arith) (c .before .before .loop .inv .1)))
+    (λ c. search needs)
     (λ c. let e : c .before .loop .j ≡ c .before .before .args .n = omega arith in rw e at (c .before .loop .inv .1)))

@@ -12,10 +12,10 @@ use Rattle.initial.proofs.follow.Statement.{statement}
 use Rattle.initial.proofs.follow.Tie as tie
 
 abbrev Inv-loop : tie.InvT-loop
-Inv-loop places starts ends widths head link away cut g n first₀ y₀ i₀ first y i = (i ≤ n) × (y ≤ g) × Wrote first₀ first i (startsBy g (leavingBy places starts ends widths) cut (n - i) y) (startsBy g (leavingBy places starts ends widths) cut n 0)
+Inv-loop places starts ends widths head link cut g n first₀ y₀ i₀ first y i = (i ≤ n) × (y ≤ g) × Wrote first₀ first i (startsBy g (leavingBy places starts ends widths) cut (n - i) y) (startsBy g (leavingBy places starts ends widths) cut n 0)
 
 abbrev μ-loop : tie.MeasureT-loop
-μ-loop places starts ends widths head link away cut g n first₀ y₀ i₀ first y i = n - i
+μ-loop places starts ends widths head link cut g n first₀ y₀ i₀ first y i = n - i
 
 pub follow-spec : {M : Type 1} → statement M
 follow-spec =
@@ -24,8 +24,8 @@ follow-spec =
     (λ c. (omega arith, omega arith, rw sub-zero (wrote-none _ _)))
     (λ c. search needs)
     (λ c. search needs)
-    (λ c κs. let p = c .before .before .before .before .before .before .pre in let q = p .1 .1 .1 in (p .0, (p .1 .0, (p .1 .1 .0, (q .0, (c .before .loop .inv .1, q .1 .0, omega arith))))))
-    (λ c. let p = c .before .before .before .before .before .before .before .pre in let h : c .next-start .result ≤ c .before .before .before .before .before .before .before .args .g = rw (c .next-start .ensures) (next-within _ _ _ _ _) in omega arith)
+    (λ c κs. let p = c .before .before .before .before .before .before .before .pre in (p .0, (p .1 .0, (p .1 .1 .0, (c .before .loop .inv .1, p .1 .1 .1 .0, omega arith)))))
+    (λ c. let p = c .before .before .before .before .before .before .before .before .pre in let h : c .next-start .result ≤ c .before .before .before .before .before .before .before .before .args .g = rw (c .next-start .ensures) (next-within _ _ _ _ _) in omega arith)
     (λ c. search needs)
     (λ c. search needs)
     (λ c. search needs)

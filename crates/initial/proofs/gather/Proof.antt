@@ -1,12 +1,12 @@
 -- the edges of y's list before j have come in
 use native.Mathlib.Omega.{arith}
-use Prim.Native.Nat.{_-_}
+use Prim.Native.Nat.{_-_, _<_}
 use mathlib.Core.Path.{_≡_, refl}
 use lib.ListN.{length}
 use Rattle.graph.specs.Graph.{via}
 use Rattle.graph.proofs.Links.{On, walk-on, walk-next, walk-less, on-end}
 use Rattle.initial.specs.Positions.{Gathered}
-use Rattle.initial.proofs.Gathers.{from-small, starting-small, gathered-none, gathered-turn}
+use Rattle.initial.proofs.Gathers.{from-more, starting-more, gathered-none, gathered-turn}
 use borrow.Author.Needs.{needs}
 use Rattle.initial.proofs.gather.Statement.{statement}
 use Rattle.initial.proofs.gather.Tie as tie
@@ -27,19 +27,20 @@ gather-spec =
     (λ c. let p = c .before .before .before .before .before .before .pre in
     (refl, rw (c .wide .ensures) (walk-on (p .1 .0) _ (p .1 .1 .0 .0)), rw (c .wide .ensures) (gathered-none _ _ _ _ _ _ _ (p .1 .1 .0 .0) (p .1 .0) _ (p .1 .1 .1 .tall))))
     (λ c κs. search needs)
-    (λ c κs. search needs)
     (λ c. search needs)
     (λ c. search needs)
-    (λ c. let p = c .before .before .before .before .before .before .before .before .before .before .before .pre in let a = c .before .before .before .before .before .before .before .before .before .before .before .args in let l = c .before .before .before .before .loop in let x = c .before .before .cluster .result in
-    omega (arith, p .0 .out .few, p .1 .1 .1 .low x, l .inv .2 .adds x, from-small (a .places .now) (a .starts .now) (a .ends .now) (a .widths .now) (a .y) x (l .j) (λ k. omega (arith, c .before .before .before .before .before .before .before .shared-slice-known4 .given k)), c .before .entry .ensures .low))
     (λ c. search needs)
     (λ c. search needs)
-    (λ c. let p = c .before .before .before .before .before .before .before .before .before .before .before .pre in let a = c .before .before .before .before .before .before .before .before .before .before .before .args in let l = c .before .before .before .before .loop in
-    omega (arith, p .0 .out .few, l .inv .2 .sums, starting-small (a .places .now) (a .starts .now) (a .widths .now) (a .y) (l .j) (λ k. omega (arith, c .before .before .before .before .before .before .before .shared-slice-known4 .given k)), c .before .entry .ensures .low))
+    (λ c. let p = c .before .before .before .before .before .before .before .before .before .before .before .pre in let a = c .before .before .before .before .before .before .before .before .before .before .before .args in let l = c .before .before .before .before .loop in let x = c .before .before .cluster .result in let h : l .j < length (a .widths .now) = omega arith in
+    omega (arith, p .1 .1 .1 .low x, l .inv .2 .adds x, from-more (a .places .now) (a .starts .now) (a .ends .now) (a .widths .now) (a .y) x (l .j) (p .1 .1 .0 .2) h))
+    (λ c. search needs)
+    (λ c. search needs)
+    (λ c. let p = c .before .before .before .before .before .before .before .before .before .before .before .pre in let a = c .before .before .before .before .before .before .before .before .before .before .before .args in let l = c .before .before .before .before .loop in let h : l .j < length (a .widths .now) = omega arith in
+    omega (arith, l .inv .2 .sums, starting-more (a .places .now) (a .starts .now) (a .widths .now) (a .y) (l .j) (p .1 .1 .0 .2) h))
     (λ c. search needs)
     (λ c. search needs)
     (λ c κs. search needs)
     (λ c. omega (arith, c .wide2 .ensures, walk-less (c .before .before .before .before .before .before .before .before .before .before .before .before .before .pre .1 .0) (c .before .before .before .before .before .before .loop .j) (c .before .before .before .before .before .loop-test .taken)))
     (λ c. let p = c .before .before .before .before .before .before .before .before .before .before .before .before .before .pre in let l = c .before .before .before .before .before .before .loop in let t = c .before .before .before .before .before .loop-test .taken in let k = c .before .before .before .before .cluster .ensures in
-    (refl, rw (c .wide2 .ensures) (walk-next (p .1 .0) _ _ (l .inv .1) t), rw (c .wide2 .ensures) (gathered-turn _ _ _ _ _ _ _ (p .1 .1 .0 .0) (p .1 .0) (l .j) _ _ _ _ _ _ (l .inv .1) t (k .is) (k .low) (c .before .before .before .entry .ensures) (l .inv .2))))
+    (refl, rw (c .wide2 .ensures) (walk-next (p .1 .0) _ _ (l .inv .1) t), rw (c .wide2 .ensures) (gathered-turn _ _ _ _ _ _ _ (p .1 .1 .0 .0) (p .1 .0) (l .j) _ _ _ _ (l .inv .1) t (k .is) (k .low) (l .inv .2))))
     (λ c. let l = c .before .loop in rw (on-end (l .inv .1) (c .loop-test .left)) at (l .inv .2)))

@@ -1,33 +1,21 @@
--- the table has the least cut; where there is one, its starts follow
+-- no cut is known before
 use native.Mathlib.Omega.{arith}
-use Prim.Native.Nat.{ℕ}
-use mathlib.Core.Path.{refl, _∙_, ap}
-use mathlib.Core.List.{List}
-use lib.ListN.{length, take}
-use Rattle.folds.specs.Fold.{over, zeros}
-use Rattle.initial.specs.Initial.{partsOf}
-use Rattle.initial.proofs.Flows.{positioned-all}
-use Rattle.initial.proofs.Solves.{table-none, solved-none, solved-some, starts-front, starts-length}
+use Rattle.initial.proofs.Solves.{table-none}
 use borrow.Author.Needs.{needs}
 use Rattle.initial.proofs.search.Statement.{statement}
 use Rattle.initial.proofs.search.Tie as tie
 
 pub search-spec : {M : Type 1} → statement M
-unfolding zeros
 search-spec =
     tie.close
     (tie.spec
-    (λ c κs. (c .before .before .before .before .before .before .before .pre .0 .joins .out, refl))
-    (λ c κs. let p = c .before .before .before .before .before .before .before .before .before .before .before .before .pre in (p .0, (c .before .before .before .before .fill .ensures, (p .1 .0, ((p .1 .1 .1, omega (arith, p .1 .1 .2), refl), table-none)))))
+    (λ c. search needs)
+    (λ c κs. let p = c .before .before .before .before .before .before .before .before .before .pre in let q = table-none 1105 (omega (arith, p .1 .1 .1 .1 .1)) in
+    (p .0, (p .1 .0, (p .1 .1 .0, (p .1 .1 .1 .0, (q .0, (q .1, p .1 .1 .1 .1)))))))
     (λ c. search needs)
     (λ c. search needs)
-    (λ c. let p = c .before .before .before .before .before .before .before .before .before .before .before .before .before .before .pre in
-    rw (solved-none (p .0) (λ k. omega (arith, c .before .before .before .before .before .before .before .before .before .before .before .shared-slice-known3 .given k)) _ (p .1 .1 .2) (p .1 .1 .0) (c .before .tabulate .ensures) (c .if1 .taken)) (record { is = refl; table = refl }))
-    (λ c κs. (c .before .before .before .before .before .before .before .before .before .before .before .before .before .before .before .before .pre .0 .joins .into, c .before .before .before .before .before .before .before .before .fill .ensures .long))
-    (λ c κs. let p = c .before .before .before .before .before .before .before .before .before .before .before .before .before .before .before .before .before .before .before .before .before .before .pre in let T = c .before .before .before .before .before .before .before .before .before .tabulate .ensures in
-    (positioned-all (p .1 .1 .1) (p .0), (c .before .before .before .before .before .fill2 .ensures, (T .aways, (T .done .table .low, (p .1 .1 .1, p .1 .1 .2, refl))))))
-    (λ c κs. let p = c .before .before .before .before .before .before .before .before .before .before .before .before .before .before .before .before .before .before .before .before .before .before .before .before .before .pre in ((omega (arith, p .1 .1 .2), ap length (c .before .before .follow .ensures) ∙ starts-length _ _ _ _ _ refl (p .1 .1 .2)), p .1 .1 .3))
     (λ c. search needs)
-    (λ c. let p = c .before .before .before .before .before .before .before .before .before .before .before .before .before .before .before .before .before .before .before .before .before .before .before .before .before .before .before .before .pre in let a = c .before .before .before .before .before .before .before .before .before .before .before .before .before .before .before .before .before .before .before .before .before .before .before .before .before .before .before .before .args in
-    rw (solved-some (p .0) (λ k. omega (arith, c .before .before .before .before .before .before .before .before .before .before .before .before .before .before .before .before .before .before .before .before .before .before .before .before .before .shared-slice-known3 .given k)) _ (p .1 .1 .2) (p .1 .1 .0) (c .before .before .before .before .before .before .before .before .before .before .before .before .before .before .before .tabulate .ensures) (c .before .before .before .before .before .before .before .before .before .before .before .before .before .before .if1 .left))
-    (record { is = refl; table = c .before .before .label .ensures ∙ ap (λ (d : List ℕ). over (partsOf (a .places .now) d) (a .table .now)) (ap (take (a .n)) (c .before .before .before .before .before .follow .ensures) ∙ starts-front _ _ _ _ _) })))
+    (λ c κs. let p = c .before .before .before .before .before .before .before .before .before .pre in let q = table-none 8721 (omega (arith, p .1 .1 .1 .1 .1)) in
+    (p .0, (p .1 .0, (p .1 .1 .0, (p .1 .1 .1 .0, (q .0, (q .1, p .1 .1 .1 .1)))))))
+    (λ c. search needs)
+    (λ c. search needs))

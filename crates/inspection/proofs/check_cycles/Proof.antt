@@ -11,6 +11,6 @@ unfolding cyclesFrom
 check-cycles-spec =
     tie.close
     (tie.spec
-    (λ c κs. let p = c .before .before .before .before .pre in (p .0, (p .1 .0, (omega (arith, p .1 .1), refl))))
+    (λ c κs. let p = c .before .before .before .before .before .before .pre in (p .0, (p .1 .0, (omega (arith, p .1 .1), refl, refl))))
     (λ c. search at-hit)
     (λ c. search at-pass))

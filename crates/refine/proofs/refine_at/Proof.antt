@@ -1,5 +1,6 @@
 -- Row r and its lists lie in what is lent, and are the parts that are handed on.
-use Rattle.refine.proofs.Down.{stored-held, row-part}
+use Rattle.graph.proofs.Coarse.{stored-held}
+use Rattle.refine.proofs.Down.{row-part}
 use native.Mathlib.Omega.{arith}
 use borrow.Author.Needs.{needs}
 use Rattle.refine.proofs.refine_at.Statement.{statement}

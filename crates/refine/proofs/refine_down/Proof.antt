@@ -1,5 +1,6 @@
 -- The rungs below r are still to come, and the record holds the sums of the table at hand.
-use Rattle.refine.proofs.Down.{Descent, descent-start, descent-at, descent-next, descent-end, rows-held, lower-stored, descends-keyed}
+use Rattle.graph.proofs.Coarse.{rows-held, lower-stored}
+use Rattle.refine.proofs.Down.{Descent, descent-start, descent-at, descent-next, descent-end, descends-keyed}
 use Rattle.part_sums.specs.Sums.{SumsOf}
 use Rattle.graph.specs.Rows.{rowsIn}
 use Rattle.graph.specs.Graph.{graphOf}

@@ -13,5 +13,5 @@ check-repeats-spec =
     (λ c. search needs)
     (λ c. search needs)
     (λ c. identity-room _ _ _ (c .before .fill-identity .ensures))
-    (λ c κs. let p = c .before .before .before .before .before .before .before .pre in (fit-row _ _ (identity-part _ _ _ (c .before .before .before .fill-identity .ensures)) (p .0), p .1))
-    (λ c. let e = identity-part _ _ _ (c .before .before .before .before .fill-identity .ensures) in (c .check-row .ensures .0 ∙ rw (length-row _ _ e), rw (length-row _ _ e) at (c .check-row .ensures .1))))
+    (λ c κs. let p = c .before .before .before .before .before .before .before .before .before .pre in (fit-row _ _ (identity-part _ _ _ (c .before .before .before .before .before .fill-identity .ensures)) (p .0), p .1))
+    (λ c. let e = identity-part _ _ _ (c .before .before .before .before .before .before .fill-identity .ensures) in (c .check-row .ensures .0 ∙ rw (length-row _ _ e), rw (length-row _ _ e) at (c .check-row .ensures .1))))
