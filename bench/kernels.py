@@ -243,8 +243,8 @@ def write_all(folder, shape, size, g):
 
 
 def write_refused(folder):
-    """Of 512 blocks: the last wire repeats, the wires form one loop or a loop of the last blocks
-    alone, and no rung can be cut."""
+    """Of 512 blocks: the last wire repeats, the wires form one loop, a loop of the last blocks alone,
+    before a chain or at both its ends, and no rung can be cut."""
     for shape, make, _ in SHAPES:
         for shuffled in (False, True):
             g = drawn(make, BLOCKS, shuffled)
@@ -275,6 +275,16 @@ def write_refused(folder):
             g.wires = {e: w for e, w in list(g.wires.items())[:WIRES - 2] if e[0] not in last and e[1] not in last}
             g.wires[(BLOCKS - 2, BLOCKS - 1)] = g.wires[(BLOCKS - 1, BLOCKS - 2)] = 1
             write(folder, "loop-last-%s%s" % (shape, name), g, 16, sum(g.costs))
+    # a chain behind a loop, and one between two loops: no end of it is free on one side, or on either
+    for word, loops in (("before", (BLOCKS - 2,)), ("between", (BLOCKS - 4, BLOCKS - 2))):
+        g = drawn(chain, loops[0], False)
+        g.costs = [1] * BLOCKS
+        for u in loops:
+            g.wires[(u, u + 1)] = g.wires[(u + 1, u)] = 1
+        g.wires[(loops[0], 0)] = 1
+        if len(loops) == 2:
+            g.wires[(loops[0] - 1, loops[1])] = 1
+        write(folder, "loop-%s-chain" % word, g, 16, BLOCKS)
 
 
 def main():
