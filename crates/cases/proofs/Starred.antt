@@ -4,6 +4,7 @@ use mathlib.Core.Bool.{true}
 use Rattle.folds.specs.Fold.{sumTo, countTo, maxTo, firstTo, anyTo, allTo, listTo, turns, zeros, over}
 use Rattle.graph.specs.Graph.{identity, edge, widthOf, crossing, cut, costIn, partCost}
 use Rattle.graph.specs.Rows.{clusters}
+use Rattle.graph.specs.Table.{sizeOf, partSize}
 use Rattle.topology.specs.Level.{rise, levelsAfter, levelsOf}
 use Rattle.topology.specs.Order.{waits, ready, orNone, orderFrom, orderOf, placeIn}
 use Rattle.topology.specs.Reach.{spreads, grown, reachedAfter, onCycle, lowestOnCycle}
@@ -15,13 +16,13 @@ use Rattle.contraction.specs.Next.{mateOf, together, lowestOf, leads, numbered,
 use Rattle.matching.specs.Choice.{mayTake, offer, widest, taken, visit, visits, roundOf}
 use Rattle.hierarchy.specs.Climb.{large, poor, kept, above, rowsOf, keptOf, rowOf, flat, ladderAfter}
 use Rattle.division.specs.Division.{fits, intervalOf, between, joined, startsFrom, divisions, least}
-use Rattle.initial.specs.Initial.{placesIn, roomy, partsOf, leastParts, initialOf, highest, chosenOf}
-use Rattle.moves.specs.Move.{partSize, movedTo, partOf, leaves, share, pull, gainTo}
+use Rattle.initial.specs.Initial.{placesIn, runSize, roomy, partsOf, leastParts, initialOf, highest, chosenOf}
+use Rattle.moves.specs.Move.{movedTo, partOf, leaves, share, pull, gainTo}
 use Rattle.moves.specs.Pass.{lowered, raised, lowestNext, aboveBefore, stays, allows, tried, goesBack, target, settledAt, visited, passOf, measure, passes, repeated, refinedOn, refinedBelow, refined}
 use Rattle.partition.specs.Phases.{firstOf, resultOf}
-use Rattle.partition.specs.Split.{roomFor, verdictOf, splitOf, tableAfter, ladderLeft}
+use Rattle.partition.specs.Split.{roomFor, verdictOf, splitOf, tableAfter, rowsLeft}
 use Rattle.cases.specs.Starred.{same, splits, inspects, holds, every, starred}
 
 pub starred-hold : every starred ≡ true
-unfolding sumTo countTo maxTo firstTo anyTo allTo listTo turns zeros over identity edge widthOf crossing cut costIn partCost clusters rise levelsAfter levelsOf waits ready orNone orderFrom orderOf placeIn spreads grown reachedAfter onCycle lowestOnCycle refuseAt badVertices badParts badEdges badCost badEnds repeats cyclesFrom repeatsFrom endsFrom costsFrom checked badEntry isEmpty isOver partCycles tableOf tablePart inspected inspectOf orderAfter allOf next onlySuccessor onlyPredecessor ruleOne ruleTwo keepsRules mateOf together lowestOf leads numbered joinedRow mayTake offer widest taken visit visits roundOf large poor kept above rowsOf keptOf rowOf flat ladderAfter fits intervalOf between joined startsFrom divisions least placesIn roomy partsOf leastParts initialOf highest chosenOf partSize movedTo partOf leaves share pull gainTo lowered raised lowestNext aboveBefore stays allows tried goesBack target settledAt visited passOf measure passes repeated refinedOn refinedBelow refined firstOf resultOf roomFor verdictOf splitOf tableAfter ladderLeft same splits inspects holds every starred
+unfolding sumTo countTo maxTo firstTo anyTo allTo listTo turns zeros over identity edge widthOf crossing cut costIn partCost clusters rise levelsAfter levelsOf waits ready orNone orderFrom orderOf placeIn spreads grown reachedAfter onCycle lowestOnCycle refuseAt badVertices badParts badEdges badCost badEnds repeats cyclesFrom repeatsFrom endsFrom costsFrom checked badEntry isEmpty isOver partCycles tableOf tablePart inspected inspectOf orderAfter allOf next onlySuccessor onlyPredecessor ruleOne ruleTwo keepsRules mateOf together lowestOf leads numbered joinedRow mayTake offer widest taken visit visits roundOf large poor kept above rowsOf keptOf rowOf flat ladderAfter fits intervalOf between joined startsFrom divisions least placesIn runSize roomy partsOf leastParts initialOf highest chosenOf sizeOf partSize movedTo partOf leaves share pull gainTo lowered raised lowestNext aboveBefore stays allows tried goesBack target settledAt visited passOf measure passes repeated refinedOn refinedBelow refined firstOf resultOf roomFor verdictOf splitOf tableAfter rowsLeft same splits inspects holds every starred
 starred-hold = refl

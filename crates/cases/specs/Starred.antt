@@ -11,7 +11,8 @@ use Rattle.inspection.specs.Inspect.{inspectOf, orderAfter}
 use Rattle.hierarchy.specs.Climb.{flat}
 use Rattle.initial.specs.Initial.{Chosen, found, uncut}
 use Rattle.partition.specs.Phases.{firstOf}
-use Rattle.partition.specs.Split.{splitOf, tableAfter, ladderLeft}
+use Rattle.validity.specs.Check.{mostVertices}
+use Rattle.partition.specs.Split.{splitOf, tableAfter, rowsLeft}
 
 -- what is asked of the graph: its split, or the inspection of a table
 pub data Question : Type 0 where
@@ -52,9 +53,9 @@ isFirst (a ∷ l) (found rung table cut) = same (a ∷ l) (cut ∷ table)
 
 unfoldable pub splits : Case → List ℕ → List ℕ → Bool
 splits c table ladder =
-    isAnswer c (splitOf (c .graph) (c .parts) (c .bound) table ladder)
-    && (same (over (c .written) table) (tableAfter (c .graph) (c .parts) (c .bound) table ladder)
-    && (same (over (flat (c .rows)) ladder) (ladderLeft (c .graph) (c .parts) (c .bound) table ladder)
+    isAnswer c (splitOf mostVertices (c .graph) (c .parts) (c .bound) table ladder)
+    && (same (over (c .written) table) (tableAfter mostVertices (c .graph) (c .parts) (c .bound) table ladder)
+    && (same (over (flat (c .rows)) ladder) (rowsLeft mostVertices (c .graph) (c .parts) (c .bound) table ladder)
     && isFirst (c .first) (firstOf (c .graph) (c .parts) (c .bound))))
 
 unfoldable pub inspects : Case → List ℕ → List ℕ → Bool

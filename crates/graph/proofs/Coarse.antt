@@ -12,11 +12,11 @@ use Rattle.folds.specs.Fold.{when, sumTo}
 use Rattle.folds.proofs.Cases.{eq-or-ne, either, same-test}
 use Rattle.folds.proofs.Lists.{length-listTo, row-in}
 use Rattle.folds.proofs.Sums.{sumTo-ext, sumTo-when, sumTo-only, sumTo-swap}
-use Rattle.graph.specs.Graph.{Graph, graphOf, edges, via, identity, Arcs, arcs, seen, edge, widthOf, Formed, RowOf, Inside}
-use Rattle.graph.specs.Links.{Joins}
+use Rattle.graph.specs.Graph.{Graph, graphOf, edges, via, identity, Arcs, arcs, joining, seen, edge, widthOf, Formed, RowOf, Inside}
+use Rattle.graph.specs.Links.{Ended}
 use Rattle.graph.specs.Rung.{rungOf}
 use Rattle.graph.specs.Coarse.{Coarse, Stored}
-use Rattle.graph.proofs.Edges.{identity-at, row-inside, edge-arc, arc-edge}
+use Rattle.graph.proofs.Edges.{identity-at, joining-is, row-inside, edge-arc, arc-edge}
 use Rattle.graph.proofs.Rungs.{rung-edge}
 
 -- a sum over the edges between different clusters, worked by their pairs
@@ -65,13 +65,14 @@ module _ {G : Graph} {row : List ℕ} {g : ℕ} {froms tos widths : List ℕ} (C
   pub coarse-inside : Inside (arcs (identity g) froms tos) g
   coarse-inside i l = (rw (from-is i l) (C .from-in i l), rw (to-is i l) (C .to-in i l))
 
-  pub coarse-joins : g ≤ 512 → Joins (identity g) froms tos
-  unfolding identity
-  coarse-joins few =
-      let n : length (identity g) ≡ g = length-listTo _ _ in
+  pub coarse-joining : arcs (identity g) froms tos ≡ joining froms tos
+  coarse-joining = joining-is g froms tos (C .from-in) (λ i l. C .to-in i (omega (arith, C .same-ends)))
+
+  pub coarse-ended : g ≤ 512 → Ended froms tos
+  coarse-ended few =
       record {
-        out = record { few = C .few; rows = omega arith; in-row = λ j l. omega (arith, C .from-in j l); low = λ v l. rw (identity-at g v (omega arith)) (omega arith) };
-        into = record { few = omega (arith, C .few, C .same-ends); rows = omega arith; in-row = λ j l. omega (arith, C .to-in j (omega (arith, C .same-ends))); low = λ v l. rw (identity-at g v (omega arith)) (omega arith) };
+        from = record { few = C .few; low = λ i l. omega (arith, C .from-in i l) };
+        to = record { few = omega (arith, C .few, C .same-ends); low = λ i l. omega (arith, C .to-in i (omega (arith, C .same-ends))) };
         same = C .same-ends;
       }
 

@@ -1,19 +1,18 @@
 -- Edges between clusters, read off the lists and back; the cut and the costs of parts.
 use Prim.Native.Nat.{ℕ, zero, suc, _+_, _*_, _≤_, _<_}
-use mathlib.Core.Path.{_≡_, refl, sym, ap, _∙_}
+use mathlib.Core.Path.{_≡_, refl, sym, ap, ap₂, fun-ext, _∙_}
 use mathlib.Core.Bool.{Bool, true, false, not, _&&_}
 use mathlib.Core.List.{List}
 use native.Mathlib.Omega.{arith}
-use lib.Dec.{eqb}
-use lib.ListN.{length, getD, set, length-set}
-use borrow.Author.Tests.{eqb-true, eqb-false, eq-eqb, ne-eqb}
-use Rattle.folds.specs.Fold.{when, sumTo, anyTo, listTo, zeros, Read}
+use lib.Dec.{eqb, ltb}
+use lib.ListN.{length, getD}
+use borrow.Author.Tests.{eqb-true, eqb-false, eq-eqb, ne-eqb, ltb-true, ltb-false}
+use Rattle.folds.specs.Fold.{when, sumTo, anyTo, listTo}
 use Rattle.folds.proofs.Cases.{both, both-i, not-yes, by, when-le}
 use Rattle.folds.proofs.Searches.{any-i, any-e}
-use Rattle.folds.proofs.Sums.{sumTo-zero, sumTo-turn, sumTo-le, sumTo-ext}
-use Rattle.folds.proofs.Lists.{getD-listTo, length-listTo, getD-zeros, length-zeros, set-add}
-use Rattle.graph.specs.Links.{Summed}
-use Rattle.graph.specs.Graph.{Graph, vertices, edges, via, identity, Arcs, arcs, seen, edge, Edge, crossing, cut, costIn, partCost, through, Formed, RowOf, Inside}
+use Rattle.folds.proofs.Sums.{sumTo-ext}
+use Rattle.folds.proofs.Lists.{getD-past, getD-listTo, length-listTo}
+use Rattle.graph.specs.Graph.{Graph, vertices, edges, via, identity, Arcs, arcs, joining, seen, edge, Edge, crossing, cut, costIn, partCost, through, Formed, RowOf, Inside}
 
 module _ (A : Arcs) where
   -- edge j, read as an edge between clusters, and back
@@ -60,6 +59,22 @@ pub identity-at : (n v : ℕ) → v < n → getD (identity n) v 0 ≡ v
 unfolding identity
 identity-at n v h = getD-listTo n (λ i. i) v h
 
+identity-none : (n : ℕ) → getD (identity n) 0 0 ≡ 0
+unfolding identity listTo
+identity-none zero = refl
+identity-none (suc n) = identity-at (suc n) 0 (omega arith)
+
+-- lists that name clusters, seen through the row of the clusters themselves
+via-identity : (n : ℕ) (ends : List ℕ) → ((j : ℕ) → j < length ends → getD ends j 0 < n) → (j : ℕ) → via (identity n) ends j ≡ getD ends j 0
+via-identity n ends low j =
+    by (ltb j (length ends))
+    (λ t. identity-at n _ (low j (ltb-true j (length ends) t)))
+    (λ t. rw (getD-past ends j (ltb-false j (length ends) t)) (identity-none n))
+
+pub joining-is : (n : ℕ) (froms tos : List ℕ) → ((j : ℕ) → j < length froms → getD froms j 0 < n) → ((j : ℕ) → j < length tos → getD tos j 0 < n) → arcs (identity n) froms tos ≡ joining froms tos
+joining-is n froms tos lf lt =
+    ap₂ (λ (f t : ℕ → ℕ). record { count = length froms; from = f; to = t }) (fun-ext (via-identity n froms lf)) (fun-ext (via-identity n tos lt))
+
 pub through-at : (row table : List ℕ) (v : ℕ) → v < length row → getD (through row table) v 0 ≡ getD table (getD row v 0) 0
 unfolding through
 through-at row table v h = getD-listTo (length row) (λ i. getD table (getD row i 0) 0) v h
@@ -85,23 +100,3 @@ cut-ext G f h F e = sumTo-ext (edges G) _ _ (λ j l. rw (e _ (F .start-in j l), 
 pub part-cost-ext : (costs f h : List ℕ) (u : ℕ) → ((v : ℕ) → v < length costs → getD f v 0 ≡ getD h v 0) → partCost costs f u ≡ partCost costs h u
 unfolding partCost costIn
 part-cost-ext costs f h u e = sumTo-ext (length costs) _ _ (λ v l. rw (e v l))
-
--- a loop over the vertices that adds each cost to its part's sum
-pub summed-none : (costs parts : List ℕ) → Summed costs parts 0 (zeros 16)
-summed-none costs parts = record { tall = length-zeros 16; is = λ u _. getD-zeros 16 u ∙ sym (sumTo-zero (costIn costs parts u)) }
-
-pub summed-turn : {costs parts sums : List ℕ} {v p c : ℕ} → Summed costs parts v sums → p ≡ getD parts v 0 → p < 16 → c ≡ getD costs v 0
-    → Summed costs parts (v + 1) (set sums p (getD sums p 0 + c))
-unfolding costIn
-summed-turn {costs} {parts} {sums} {v} {p} {c} S ep lp ec =
-    record {
-      tall = length-set sums p _ ∙ S .tall;
-      is = λ u lu. set-add sums p c u (omega (arith, S .tall)) ∙ sumTo-turn (costIn costs parts u) (S .is u lu) (rw (ep, ec));
-    }
-
-pub summed-room : {costs parts sums : List ℕ} {v p b : ℕ} → Summed costs parts v sums → p < 16 → ((k : ℕ) → getD costs k 0 ≤ b) → getD sums p 0 ≤ v * b
-summed-room {costs} {parts} {v = v} {p = p} {b = b} S lp h = rw (S .is p lp) (sumTo-le v b (costIn costs parts p) (cost-in-le costs parts p b h))
-
--- an entry that was read of a table with entries below 16
-pub low-part : {parts : List ℕ} {n v b u : ℕ} → ((w : ℕ) → w < n → getD parts w 0 < 16) → v < n → Read parts v b u → u < 16
-low-part h l r = rw (r .is) (h _ l)

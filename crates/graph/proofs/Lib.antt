@@ -4,3 +4,5 @@ pub mod Rungs
 pub mod Rows
 pub mod Links
 pub mod Coarse
+pub mod Totals
+pub mod Tables

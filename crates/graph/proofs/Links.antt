@@ -156,10 +156,6 @@ module _ {key : ℕ → ℕ} {m : ℕ} {head next : List ℕ} (L : Linked key m 
       let k = rw (n .at l) at (L .nexts j l) in
       firstTo-skip p (j + 1) (getD next j 0) (k .past) (λ i li gi. o i (λ q. k .skips i li gi q)) (firstTo-more j p e h)
 
--- the edges the other way round
-pub joins-back : {row starts ends : List ℕ} → Joins row starts ends → Joins row ends starts
-joins-back g = record { out = g .into; into = g .out; same = sym (g .same) }
-
 -- an edge has both ends
 pub joined-ends : {row starts ends : List ℕ} {j : ℕ} → Joins row starts ends → j < length starts → j < length ends
 joined-ends p l = omega (arith, p .same)
@@ -181,3 +177,26 @@ module _ (A : Arcs) (j : ℕ) {u : ℕ} where
     pub leave-from : A .from j ≡ u
     unfolding leave
     leave-from = rw (ne-eqb (A .from j) (A .to j) crosses) at e
+
+-- of the keys only those of the m edges count
+hop-same : {key key′ : ℕ → ℕ} {m a from to : ℕ} → ((i : ℕ) → i < m → key i ≡ key′ i) → Hop key m a from to → Hop key′ m a from to
+hop-same e h =
+    record {
+      within = h .within;
+      past = h .past;
+      skips = λ i l u q. h .skips i l u (e i (omega (arith, h .within)) ∙ q);
+      lands = λ l. sym (e _ l) ∙ h .lands l;
+    }
+
+pub linked-same : {key key′ : ℕ → ℕ} {m : ℕ} {head next : List ℕ} → ((i : ℕ) → i < m → key i ≡ key′ i) → Linked key m head next → Linked key′ m head next
+linked-same {key} {key′} {m} e L =
+    record {
+      tall = L .tall;
+      long = L .long;
+      heads = λ a l. hop-same e (L .heads a l);
+      nexts = λ j l. rw (e j l) at (hop-same {key = key} {key′ = key′} {m = m} {a = key j} e (L .nexts j l));
+    }
+
+-- an edge between two clusters leaves the first
+pub leave-apart : (A : Arcs) (j : ℕ) → (A .from j ≡ A .to j → ⊥) → leave A j ≡ A .from j
+leave-apart A j n = leave-at A j refl (λ q. n (sym q))

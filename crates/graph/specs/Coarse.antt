@@ -6,8 +6,9 @@ use mathlib.Core.List.{List}
 use lib.Dec.{eqb}
 use lib.ListN.{length, getD}
 use Rattle.folds.specs.Fold.{when, sumTo, part}
-use Rattle.graph.specs.Graph.{Graph, identity, Arcs, arcs, seen, widthOf, crossing}
+use Rattle.graph.specs.Graph.{Graph, identity, Arcs, arcs, joining, seen, widthOf, crossing}
 use Rattle.graph.specs.Rows.{clusters}
+use Rattle.graph.specs.Links.{Linked, leave}
 
 -- what edge j sends from u to b, another one
 unfoldable pub sent : Arcs → List ℕ → ℕ → ℕ → ℕ → ℕ
@@ -38,3 +39,7 @@ pub record Stored (G : Graph) (rows : ℕ → List ℕ) (top m : ℕ) (froms tos
   pub width-room : suc top * m ≤ length widths
   pub few : (r : ℕ) → r ≤ top → getD sizes r 0 ≤ m
   pub is : (r : ℕ) → r ≤ top → Coarse G (rows r) (clusters (rows r)) (part froms (r * m) (getD sizes r 0)) (part tos (r * m) (getD sizes r 0)) (part widths (r * m) (getD sizes r 0))
+
+-- the links of the edges that leave each cluster of row r, by the lists that are stored of it
+pub record LinkedAt (m r : ℕ) (froms tos sizes head next : List ℕ) : Type 0 where
+  pub linked : Linked (leave (joining (part froms (r * m) (getD sizes r 0)) (part tos (r * m) (getD sizes r 0)))) (length (part froms (r * m) (getD sizes r 0))) head next

@@ -42,6 +42,10 @@ pub record Arcs : Type 0 where
 abbrev pub arcs : List ℕ → List ℕ → List ℕ → Arcs
 arcs row starts ends = record { count = length starts; from = via row starts; to = via row ends }
 
+-- the edges of two lists that name clusters themselves
+abbrev pub joining : List ℕ → List ℕ → Arcs
+joining froms tos = record { count = length froms; from = λ j. getD froms j 0; to = λ j. getD tos j 0 }
+
 -- the edges of a graph as a row or table sees them
 abbrev pub seen : Graph → List ℕ → Arcs
 seen G row = arcs row (G .starts) (G .ends)

@@ -2,5 +2,7 @@ pub mod Walk
 pub mod Graph
 pub mod Rung
 pub mod Rows
-pub mod Coarse
+pub mod Table
 pub mod Links
+pub mod Coarse
+pub mod Totals

@@ -1,11 +1,11 @@
--- What the code of this crate promises: edges in lists by key, where the next edge of the same key is, and sums so far.
+-- What the code of this crate promises: edges in lists by key, and where the next edge of the same key is.
 use Prim.Native.Nat.{ℕ, _+_, _≤_, _<_}
 use mathlib.Core.Path.{_≡_}
 use mathlib.Core.List.{List}
 use lib.Dec.{eqb}
 use lib.ListN.{length, getD}
-use Rattle.folds.specs.Fold.{pick, sumTo}
-use Rattle.graph.specs.Graph.{via, Arcs, crossing, costIn}
+use Rattle.folds.specs.Fold.{pick}
+use Rattle.graph.specs.Graph.{via, Arcs, crossing}
 
 -- to is the least edge from `from` on with the key a, or m
 pub record Hop (key : ℕ → ℕ) (m a from to : ℕ) : Type 0 where
@@ -42,6 +42,17 @@ pub record Joins (row starts ends : List ℕ) : Type 0 where
   pub into : Ends row ends
   pub same : length ends ≡ length starts
 
+-- the ends of at most 1024 edges, clusters below 512
+pub record Named (ends : List ℕ) : Type 0 where
+  pub few : length ends ≤ 1024
+  pub low : (i : ℕ) → i < length ends → getD ends i 0 < 512
+
+-- the two ends of each edge: edge i goes from cluster froms[i] to cluster tos[i]
+pub record Ended (froms tos : List ℕ) : Type 0 where
+  pub from : Named froms
+  pub to : Named tos
+  pub same : length tos ≡ length froms
+
 -- r is the cluster at which edge j has its end
 pub record Cluster (row ends : List ℕ) (j r : ℕ) : Type 0 where
   pub is : r ≡ via row ends j
@@ -51,8 +62,3 @@ pub record Cluster (row ends : List ℕ) (j r : ℕ) : Type 0 where
 pub record Crossing (A : Arcs) (widths : List ℕ) (j r : ℕ) : Type 0 where
   pub is : r ≡ crossing A widths j
   pub low : r < 65536
-
--- the costs of the first n vertices, in the sums of 16 parts
-pub record Summed (costs parts : List ℕ) (n : ℕ) (sums : List ℕ) : Type 0 where
-  pub tall : length sums ≡ 16
-  pub is : (u : ℕ) → u < 16 → getD sums u 0 ≡ sumTo n (costIn costs parts u)

@@ -15,6 +15,12 @@ clusters row = maxTo (length row) (λ v. suc (getD row v 0))
 abbrev pub rowsIn : List ℕ → ℕ → ℕ → List ℕ
 rowsIn rows n r = part rows (r * n) n
 
+-- one row of a hierarchy: each vertex has a cluster, no cluster is empty, and they form no cycle
+pub record Layer (G : Graph) (row : List ℕ) : Type 0 where
+  pub is-row : RowOf G row (clusters row)
+  pub onto : (c : ℕ) → c < clusters row → (v : ℕ) × (v < vertices G) × (getD row v 0 ≡ c)
+  pub acyclic : Acyclic (Edge (seen G row))
+
 -- document 01: the ladder's rows 0 to top, the kept rungs
 pub record Hierarchy (G : Graph) (rows : ℕ → List ℕ) (top : ℕ) : Type 0 where
   -- rung 0 is the blocks

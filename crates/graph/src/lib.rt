@@ -1,9 +1,12 @@
-// Graphs, rows and tables: clusters at the ends of edges, edges in lists by key, the cut of a table.
+// Graphs, rows and tables: clusters at the ends of edges, edges in lists by key, the cut of a table, costs summed by key.
 ghost use mathlib.Core.Path.{_≡_};
-ghost use Prim.Native.Nat.{ℕ, _<_, _≤_};
+ghost use Prim.Native.Nat.{ℕ, _<_, max};
 ghost use lib.ListN.{length, getD};
-ghost use Rattle.graph.specs.Graph.{via, arcs, cut};
-ghost use Rattle.graph.specs.Links.{Linked, Ends, Joins, Cluster, Crossing, Summed, leave, Leaves};
+ghost use Rattle.folds.specs.Fold.{Read};
+ghost use Rattle.graph.specs.Rows.{clusters};
+ghost use Rattle.graph.specs.Totals.{Keyed, Totals};
+ghost use Rattle.graph.specs.Graph.{arcs, joining, cut};
+ghost use Rattle.graph.specs.Links.{Linked, Ends, Joins, Named, Ended, Cluster, Crossing, leave, Leaves};
 
 // The cluster at which edge j has its end.
 pub fn cluster(row: &[u16], ends: &[u16], j: usize) -> usize
@@ -15,54 +18,40 @@ pub fn cluster(row: &[u16], ends: &[u16], j: usize) -> usize
     folds::at16(row, v)
 }
 
-// Fills the lists of the edges by the cluster of their end, from the last edge down.
-pub fn fill(row: &[u16], ends: &[u16], head: &mut [u16; 513], next: &mut [u16; 1024])
-    requires { ⌜ Ends (now row) (now ends) ⌝ }
-    requires { ⌜ length (now next) ≡ 1024 ⌝ }
-    ensures { λ _. ⌜ Linked (via (now (row .entry)) (now (ends .entry))) (length (now (ends .entry))) (now (head .exit)) (now (next .exit)) ⌝ }
+// The cluster at which edge i has its end, in a list that names clusters.
+pub fn end_at(ends: &[u16], i: usize) -> usize
+    requires { ⌜ Named (now ends) ⌝ }
+    requires { ⌜ i < length (now ends) ⌝ }
+    ensures { λ r. ⌜ Read (now (ends .entry)) i 512 r ⌝ }
 {
-    let m = ends.len();
-    *head = [m as u16; 513];
-    let mut j: usize = m;
-    while j > 0 {
-        j -= 1;
-        let a = cluster(row, ends, j);
-        next[j] = head[a];
-        head[a] = j as u16;
-    }
+    folds::at16(ends, i)
 }
 
-// The cluster that edge j leaves at its near end, or 512 where both ends lie in one.
-fn leaves(row: &[u16], near: &[u16], far: &[u16], j: usize) -> usize
-    requires { ⌜ Joins (now row) (now near) (now far) ⌝ }
+// The cluster that edge j leaves at its near end, or 512 where it has one cluster at both ends.
+fn leaving_at(near: &[u16], far: &[u16], j: usize) -> usize
+    requires { ⌜ Ended (now near) (now far) ⌝ }
     requires { ⌜ j < length (now near) ⌝ }
-    ensures { λ r. ⌜ Leaves (arcs (now (row .entry)) (now (near .entry)) (now (far .entry))) j r ⌝ }
+    ensures { λ r. ⌜ Leaves (joining (now (near .entry)) (now (far .entry))) j r ⌝ }
 {
-    let a = cluster(row, near, j);
-    let b = cluster(row, far, j);
+    let a = end_at(near, j);
+    let b = end_at(far, j);
     if a == b { 512 } else { a }
 }
 
 // Fills the lists of the edges that leave a cluster, by the cluster of their near end, from the last edge down.
-pub fn fill_leaving(
-    row: &[u16],
-    near: &[u16],
-    far: &[u16],
-    head: &mut [u16; 513],
-    next: &mut [u16; 1024],
-)
-    requires { ⌜ Joins (now row) (now near) (now far) ⌝ }
+pub fn link_leaving(near: &[u16], far: &[u16], head: &mut [u16; 513], next: &mut [u16; 1024])
+    requires { ⌜ Ended (now near) (now far) ⌝ }
     requires { ⌜ length (now next) ≡ 1024 ⌝ }
-    ensures { λ _. ⌜ Linked (leave (arcs (now (row .entry)) (now (near .entry)) (now (far .entry)))) (length (now (near .entry))) (now (head .exit)) (now (next .exit)) ⌝ }
+    ensures { λ _. ⌜ Linked (leave (joining (now (near .entry)) (now (far .entry)))) (length (now (near .entry))) (now (head .exit)) (now (next .exit)) ⌝ }
 {
     let m = near.len();
     *head = [m as u16; 513];
     let mut j: usize = m;
     while j > 0 {
         j -= 1;
-        let k = leaves(row, near, far, j);
-        next[j] = head[k];
-        head[k] = j as u16;
+        let a = leaving_at(near, far, j);
+        next[j] = head[a];
+        head[a] = j as u16;
     }
 }
 
@@ -95,17 +84,45 @@ pub fn cut_of(parts: &[u16], starts: &[u16], ends: &[u16], widths: &[u16]) -> u3
     sum
 }
 
-// The cost of each of 16 parts.
-pub fn part_costs(costs: &[u16], parts: &[u16], sums: &mut [u32; 16])
-    requires { ⌜ (length (now costs) ≤ 512) × (length (now costs) ≤ length (now parts)) ⌝ }
-    requires { ⌜ ((v : ℕ) → v < length (now costs) → getD (now parts) v 0 < 16) ⌝ }
-    ensures { λ _. ⌜ Summed (now (costs .entry)) (now (parts .entry)) (length (now (costs .entry))) (now (sums .exit)) ⌝ }
+// An entry as a u32, with its bound.
+fn entry(s: &[u16], i: usize) -> u32
+    requires { ⌜ i < length (now s) ⌝ }
+    ensures { λ r. ⌜ Read (now (s .entry)) i 65536 r ⌝ }
 {
-    *sums = [0; 16];
+    s[i] as u32
+}
+
+// Adds each cost to the sum of its key.
+pub fn sum_costs(keys: &[u16], costs: &[u16], sums: &mut [u32])
+    requires { ⌜ Keyed (now keys) (now costs) (length (now sums)) ⌝ }
+    requires { ⌜ ((u : ℕ) → u < length (now sums) → getD (now sums) u 0 ≡ 0) ⌝ }
+    ensures { λ _. ⌜ Totals (now (keys .entry)) (now (costs .entry)) (length (now (sums .entry))) (length (now (costs .entry))) (now (sums .exit)) ⌝ }
+{
+    let n = costs.len();
     let mut v: usize = 0;
-    while v < costs.len() {
-        let u = folds::at16(parts, v);
-        sums[u] = sums[u] + costs[v] as u32;
+    while v < n {
+        let c = folds::at16(keys, v);
+        sums[c] = sums[c] + entry(costs, v);
         v += 1;
     }
+}
+
+pub fn larger(a: usize, b: usize) -> usize
+    ensures { λ r. ⌜ r ≡ max a b ⌝ }
+{
+    if a < b { b } else { a }
+}
+
+// How many clusters a row has.
+pub fn cluster_count(row: &[u16]) -> usize
+    ensures { λ r. ⌜ r ≡ clusters (now (row .entry)) ⌝ }
+{
+    let n = row.len();
+    let mut count: usize = 0;
+    let mut v: usize = 0;
+    while v < n {
+        count = larger(count, folds::at16(row, v) + 1);
+        v += 1;
+    }
+    count
 }

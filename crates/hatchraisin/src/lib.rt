@@ -1,6 +1,7 @@
 // The public calls for callers in C and Rust: numbers, slices, and cells for the answer.
 ghost use mathlib.Core.Path.{_≡_};
 ghost use Rattle.graph.specs.Graph.{graphOf};
+ghost use Rattle.validity.specs.Check.{mostVertices};
 ghost use Rattle.partition.specs.Split as split;
 ghost use Rattle.inspection.specs.Inspect as inspect;
 ghost use Rattle.kit_text.specs.Reading.{lists, readingOf, written, figures, outcome};
@@ -19,8 +20,8 @@ fn tell_split(told: Partitioned, answer: &mut [usize; 4]) -> u32
             *answer = [place, 0, 0, 0];
             validity::number(cause)
         }
-        Partitioned::Parted(cut, rounds, rung, moves) => {
-            *answer = [cut as usize, rounds, rung, moves];
+        Partitioned::Parted(s) => {
+            *answer = [s.cut as usize, s.rounds, s.rung, s.moves];
             0
         }
     }
@@ -73,10 +74,10 @@ pub extern "C" fn hatch_split(
     ladder: &mut [u16],
     answer: &mut [usize; 4],
 ) -> u32
-    ensures { λ r. ⌜ r ≡ split.splitOf (graphOf (now (costs .entry)) (now (starts .entry)) (now (ends .entry)) (now (widths .entry))) k bound (now (table .entry)) (now (ladder .entry)) .number ⌝ }
-    ensures { λ _. ⌜ now (answer .exit) ≡ fourCells (split.splitOf (graphOf (now (costs .entry)) (now (starts .entry)) (now (ends .entry)) (now (widths .entry))) k bound (now (table .entry)) (now (ladder .entry))) ⌝ }
-    ensures { λ _. ⌜ now (table .exit) ≡ split.tableAfter (graphOf (now (costs .entry)) (now (starts .entry)) (now (ends .entry)) (now (widths .entry))) k bound (now (table .entry)) (now (ladder .entry)) ⌝ }
-    ensures { λ _. ⌜ now (ladder .exit) ≡ split.ladderLeft (graphOf (now (costs .entry)) (now (starts .entry)) (now (ends .entry)) (now (widths .entry))) k bound (now (table .entry)) (now (ladder .entry)) ⌝ }
+    ensures { λ r. ⌜ r ≡ split.splitOf mostVertices (graphOf (now (costs .entry)) (now (starts .entry)) (now (ends .entry)) (now (widths .entry))) k bound (now (table .entry)) (now (ladder .entry)) .number ⌝ }
+    ensures { λ _. ⌜ now (answer .exit) ≡ fourCells (split.splitOf mostVertices (graphOf (now (costs .entry)) (now (starts .entry)) (now (ends .entry)) (now (widths .entry))) k bound (now (table .entry)) (now (ladder .entry))) ⌝ }
+    ensures { λ _. ⌜ now (table .exit) ≡ split.tableAfter mostVertices (graphOf (now (costs .entry)) (now (starts .entry)) (now (ends .entry)) (now (widths .entry))) k bound (now (table .entry)) (now (ladder .entry)) ⌝ }
+    ensures { λ _. ⌜ now (ladder .exit) ≡ split.rowsLeft mostVertices (graphOf (now (costs .entry)) (now (starts .entry)) (now (ends .entry)) (now (widths .entry))) k bound (now (table .entry)) (now (ladder .entry)) ⌝ }
 {
     tell_split(
         partition::split(costs, starts, ends, widths, k, bound, table, ladder),

@@ -10,14 +10,20 @@ use borrow.Author.Tests.{ltb-true, ltb-false}
 use Rattle.folds.specs.Fold.{sumTo}
 use Rattle.folds.proofs.Cases.{by, either, eq-or-ne}
 use Rattle.folds.proofs.Lists.{getD-past}
-use Rattle.graph.specs.Graph.{Graph, graphOf, identity, arcs, seen}
-use Rattle.graph.proofs.Coarse.{from-is, to-is, coarse-joins, coarse-edge}
+use Rattle.graph.specs.Graph.{Graph, graphOf, identity, arcs, joining, seen, RowOf, Proper}
+use Rattle.graph.specs.Coarse.{Coarse}
+use Rattle.graph.proofs.Coarse.{coarse-joining, coarse-ended, coarse-edge}
+use Rattle.topology.specs.Order.{orderOf}
 use Rattle.topology.proofs.Same.{order-same}
 use Rattle.levels.specs.Sweep.{Ordered}
 use Rattle.offers.specs.State.{Simple}
 use Rattle.matching.specs.Held.{Ready, Matched}
 use Rattle.matching.proofs.Lists.{round-coarse, ready-coarse}
 use Rattle.hierarchy.specs.Built.{Carries}
+
+-- the order by a rung's lists is that of its row
+pub coarse-order : {G : Graph} {row : List ℕ} {g : ℕ} {froms tos widths : List ℕ} → Coarse G row g froms tos widths → Proper G → RowOf G row g → orderOf (joining froms tos) g ≡ orderOf (seen G row) g
+coarse-order {G} {row} {g} {froms} {tos} C P R = rw (← coarse-joining C) (order-same (arcs (identity g) froms tos) (seen G row) (coarse-edge C (P .formed) R (P .wide)) g)
 
 module _ {G : Graph} {row : List ℕ} {g : ℕ} {weights froms tos widths order : List ℕ} (R : Ready G row g) (C : Carries G row g weights froms tos widths order) where
   cost-length : length (take g weights) ≡ g
@@ -29,24 +35,22 @@ module _ {G : Graph} {row : List ℕ} {g : ℕ} {weights froms tos widths order 
   pub carried-ready : Ready (graphOf (take g weights) froms tos widths) (identity g) g
   carried-ready = ready-coarse R (C .lists) (take g weights) cost-length (λ c. cost-at c ∙ C .costs c) (C .onto)
 
-  pub carried-simple : Simple (identity g) froms tos widths
+  pub carried-simple : Simple froms tos widths
   carried-simple =
       record {
-        joins = coarse-joins (C .lists) (R .small);
+        joins = coarse-ended (C .lists) (R .small);
         same = C .lists .same-widths;
         narrow = rw (C .lists .same-widths) (C .lists .narrow);
         single = single;
       }
     where
-      single : (i j : ℕ) → i < length froms → j < length froms → arcs (identity g) froms tos .from i ≡ arcs (identity g) froms tos .from j → arcs (identity g) froms tos .to i ≡ arcs (identity g) froms tos .to j → i ≡ j
-      single i j li lj ef et =
-          let f = sym (from-is (C .lists) i li) ∙ ef ∙ from-is (C .lists) j lj in
-          let t = sym (to-is (C .lists) i li) ∙ et ∙ to-is (C .lists) j lj in
+      single : (i j : ℕ) → i < length froms → j < length froms → getD froms i 0 ≡ getD froms j 0 → getD tos i 0 ≡ getD tos j 0 → i ≡ j
+      single i j li lj f t =
           either (eq-or-ne i j) (λ e. e)
           (λ n. by (ltb i j) (λ q. absurd (C .lists .once i j (ltb-true i j q) lj f t)) (λ q. absurd (C .lists .once j i (omega (arith, ltb-false i j q)) li (sym f) (sym t))))
 
-  pub carried-order : Ordered (arcs (identity g) froms tos) g order
-  carried-order = record { long = C .ordered .long; is = λ i l. C .ordered .is i l ∙ ap (λ (o : List ℕ). getD o i 0) (sym (order-same (arcs (identity g) froms tos) (seen G row) (coarse-edge (C .lists) (R .proper .formed) (R .row-of) (R .proper .wide)) g)) }
+  pub carried-order : Ordered (joining froms tos) g order
+  carried-order = record { long = C .ordered .long; is = λ i l. C .ordered .is i l ∙ ap (λ (o : List ℕ). getD o i 0) (sym (coarse-order (C .lists) (R .proper) (R .row-of))) }
 
   pub carried-matched : {mates : List ℕ} {bound r : ℕ} → Matched (graphOf (take g weights) froms tos widths) bound (identity g) mates r → Matched G bound row mates r
   carried-matched {mates} {bound} {r} M =

@@ -1,34 +1,23 @@
 -- The lists, costs and order of the next row: what the calls ask for, and what they leave.
 use Prim.Native.Nat.{ℕ, _+_, _-_, _*_, _≤_, _<_}
-use mathlib.Core.Path.{_≡_, sym, ap, _∙_}
+use mathlib.Core.Path.{_≡_, sym, _∙_}
 use mathlib.Core.List.{List}
 use native.Mathlib.Nat.{suc-mul, mul-le-mul-right}
 use native.Mathlib.Omega.{arith}
 use lib.ListN.{length, getD, set, take, drop}
 use lib.Seq.{getD-set-same}
 use borrow.Rule.Slice.PartMut.{putMid}
-use Rattle.folds.specs.Fold.{listTo, over, put, part}
-use Rattle.folds.proofs.Lists.{listTo-ext, listTo-getD, length-listTo}
+use Rattle.folds.specs.Fold.{over, put, part}
 use Rattle.folds.proofs.Slices.{put-part, length-part, length-over, length-put}
 use Rattle.folds.proofs.Parts.{part-put}
-use Rattle.graph.specs.Graph.{identity, arcs}
-use Rattle.graph.specs.Links.{Linked, Joins, leave}
-use Rattle.graph.proofs.Edges.{identity-at}
-use Rattle.graph.proofs.Coarse.{coarse-joins}
+use Rattle.graph.specs.Graph.{joining}
+use Rattle.graph.specs.Links.{Linked, Ended, leave}
+use Rattle.graph.specs.Coarse.{LinkedAt}
+use Rattle.graph.proofs.Coarse.{coarse-ended}
 use Rattle.topology.specs.Order.{orderOf}
 use Rattle.topology.proofs.Orders.{order-few}
 use Rattle.row_lists.specs.Carry.{Next}
 use Rattle.row_lists.proofs.Carrying.{handed}
-use Rattle.hierarchy.specs.Built.{LinkedAt}
-
--- the front of the identity
-pub identity-front : (g n : ℕ) → g ≤ n → take g (identity n) ≡ identity g
-unfolding identity
-identity-front g n l = sym (listTo-ext g (λ v. v) (λ k. getD (listTo n (λ v. v)) k 0) (λ v lv. sym (identity-at n v (omega arith))) ∙ listTo-getD g (listTo n (λ v. v)) (rw (length-listTo n (λ v. v)) l))
-
-pub id-length : {id : List ℕ} (n : ℕ) → id ≡ identity n → length id ≡ n
-unfolding identity
-id-length n e = ap length e ∙ length-listTo n (λ v. v)
 
 -- places of rows of m entries
 pub next-place : (r m : ℕ) → r < 8 → r * m + m + m ≤ 9 * m
@@ -55,8 +44,8 @@ module _ {map froms tos widths froms′ tos′ widths′ : List ℕ} {g h a size
   to-handed : take (b + count - b) (drop b tos′) ≡ N .to
   to-handed = handed tos′ b count ∙ to-part
 
-  pub next-joins : {id : List ℕ} → id ≡ identity 512 → Joins (take h id) (take (b + count - b) (drop b froms′)) (take (b + count - b) (drop b tos′))
-  next-joins e = rw (e, identity-front h 512 few, from-handed, to-handed) (coarse-joins (N .lists) few)
+  pub next-ended : Ended (take (b + count - b) (drop b froms′)) (take (b + count - b) (drop b tos′))
+  next-ended = rw (from-handed, to-handed) (coarse-ended (N .lists) few)
 
   pub from-fits : b + count ≤ length froms′
   from-fits = rw (N .froms-are, length-put froms b (N .from) (omega (arith, N .counts, N .few))) (omega (arith, N .few))
@@ -64,21 +53,19 @@ module _ {map froms tos widths froms′ tos′ widths′ : List ℕ} {g h a size
   pub to-fits : b + count ≤ length tos′
   to-fits = rw (N .tos-are, length-put tos b (N .to) (omega (arith, to-count, N .few))) (omega (arith, N .few))
 
-  pub next-orders : (orders : List ℕ) {q id : List ℕ} (c n : ℕ) → id ≡ identity 512 → c + n ≤ length orders → h ≤ n
-      → q ≡ over (orderOf (arcs (take h id) (take (b + count - b) (drop b froms′)) (take (b + count - b) (drop b tos′))) h) (take (c + n - c) (drop c orders))
-      → putMid c (c + n - c) orders q ≡ put orders c (over (orderOf (arcs (identity h) (N .from) (N .to)) h) (part orders c n))
-  next-orders orders {q} {id} c n e room le eq =
-      let o = orderOf (arcs (identity h) (N .from) (N .to)) h in
-      let i : take h id ≡ identity h = ap (take h) e ∙ identity-front h 512 few in
-      let p : q ≡ over o (part orders c n) = rw (i, from-handed, to-handed, handed orders c n) at eq in
+  pub next-orders : (orders : List ℕ) {q : List ℕ} (c n : ℕ) → c + n ≤ length orders → h ≤ n
+      → q ≡ over (orderOf (joining (take (b + count - b) (drop b froms′)) (take (b + count - b) (drop b tos′))) h) (take (c + n - c) (drop c orders))
+      → putMid c (c + n - c) orders q ≡ put orders c (over (orderOf (joining (N .from) (N .to)) h) (part orders c n))
+  next-orders orders {q} c n room le eq =
+      let o = orderOf (joining (N .from) (N .to)) h in
+      let p : q ≡ over o (part orders c n) = rw (from-handed, to-handed, handed orders c n) at eq in
       let k : c + n - c ≡ n = omega arith in
-      let l : length (over o (part orders c n)) ≡ n = length-over o (part orders c n) (rw (length-part orders c n room) (omega (arith, order-few (arcs (identity h) (N .from) (N .to)) h))) ∙ length-part orders c n room in
+      let l : length (over o (part orders c n)) ≡ n = length-over o (part orders c n) (rw (length-part orders c n room) (omega (arith, order-few (joining (N .from) (N .to)) h))) ∙ length-part orders c n room in
       put-part orders (over o (part orders c n)) q c (c + n - c) p (k ∙ sym l)
 
-  pub next-links : {head next id : List ℕ} → id ≡ identity 512 → (r m : ℕ) (sizes : List ℕ) → b ≡ r * m + m → r < 8 → length sizes ≡ 9
-      → Linked (leave (arcs (take h id) (take (b + count - b) (drop b froms′)) (take (b + count - b) (drop b tos′)))) (length (take (b + count - b) (drop b froms′))) head next
-      → LinkedAt m (r + 1) h froms′ tos′ (set sizes (r + 1) count) head next
-  next-links {id = id} e r m sizes eb lr nine L =
-      let i : take h id ≡ identity h = ap (take h) e ∙ identity-front h 512 few in
+  pub next-links : {head next : List ℕ} (r m : ℕ) (sizes : List ℕ) → b ≡ r * m + m → r < 8 → length sizes ≡ 9
+      → Linked (leave (joining (take (b + count - b) (drop b froms′)) (take (b + count - b) (drop b tos′)))) (length (take (b + count - b) (drop b froms′))) head next
+      → LinkedAt m (r + 1) froms′ tos′ (set sizes (r + 1) count) head next
+  next-links r m sizes eb lr nine L =
       let q : (r + 1) * m ≡ b = omega (arith, suc-mul r m) in
-      record { linked = rw (q, getD-set-same sizes (r + 1) count 0 (omega arith)) (rw (i, handed froms′ b count, handed tos′ b count) at L) }
+      record { linked = rw (q, getD-set-same sizes (r + 1) count 0 (omega arith)) (rw (handed froms′ b count, handed tos′ b count) at L) }

@@ -4,7 +4,7 @@ pub mod Own
 pub mod Carrying
 pub mod Storing
 pub mod Handing
-pub mod Climbs
+pub mod OneRound
 pub mod Stepping
 pub mod Starting
-pub mod Rising
+pub mod Rounds

@@ -10,8 +10,8 @@ use Rattle.folds.proofs.Sums.{sumTo-le}
 use Rattle.folds.proofs.Lists.{getD-past}
 use Rattle.folds.proofs.Slices.{length-put}
 use Rattle.folds.proofs.Parts.{part-put, take-put}
-use Rattle.graph.specs.Graph.{Graph, vertices, edges, identity, arcs, seen}
-use Rattle.graph.specs.Coarse.{Coarse}
+use Rattle.graph.specs.Graph.{Graph, vertices, edges, identity, arcs, joining, seen}
+use Rattle.graph.specs.Coarse.{Coarse, LinkedAt}
 use Rattle.graph.specs.Links.{Linked, leave}
 use Rattle.graph.proofs.Edges.{row-inside, identity-row}
 use Rattle.topology.specs.Order.{orderOf}
@@ -19,7 +19,7 @@ use Rattle.topology.proofs.Orders.{order-all}
 use Rattle.contraction.proofs.Rounds.{identity-clusters}
 use Rattle.matching.proofs.Lists.{cost-identity}
 use Rattle.row_lists.specs.Carry.{First}
-use Rattle.hierarchy.specs.Built.{rowAt, Carried, Carrying, LinkedAt, Room, Buildable}
+use Rattle.hierarchy.specs.Built.{rowAt, Carried, Carrying, Room, Buildable}
 
 module _ (G : Graph) (k : ℕ) (B : Buildable G k) where
   abbrev n : ℕ
@@ -50,7 +50,7 @@ module _ (G : Graph) (k : ℕ) (B : Buildable G k) where
   front : (l p : List ℕ) → length p ≤ length l → part (put l 0 p) (0 * m) (length p) ≡ p
   front l p h = let z : 0 * m ≡ 0 = omega arith in rw z (part-put l p 0 (omega arith))
 
-  module _ {ladder froms tos widths sizes orders froms′ tos′ widths′ sizes′ : List ℕ} (M : Room G ladder froms tos widths sizes orders)
+  module _ {rows froms tos widths sizes orders froms′ tos′ widths′ sizes′ : List ℕ} (M : Room G rows froms tos widths sizes orders)
       (F : First (G .starts) (G .ends) (G .widths) froms tos widths sizes froms′ tos′ widths′ sizes′) where
     from-room : m ≤ length froms
     from-room = omega (arith, M .from-room)
@@ -61,10 +61,10 @@ module _ (G : Graph) (k : ℕ) (B : Buildable G k) where
     width-room : m ≤ length widths
     width-room = omega (arith, M .width-room)
 
-    pub first-kept : (ladder′ : List ℕ) → 9 * n ≤ length ladder′ → Room G ladder′ froms′ tos′ widths′ sizes′ orders
-    first-kept ladder′ rows =
+    pub first-kept : (rows′ : List ℕ) → 9 * n ≤ length rows′ → Room G rows′ froms′ tos′ widths′ sizes′ orders
+    first-kept rows′ room =
         record {
-          rows = rows;
+          row-room = room;
           from-room = rw (F .froms-are, length-put froms 0 (G .starts) (omega (arith, from-room))) (M .from-room);
           to-room = rw (F .tos-are, length-put tos 0 (G .ends) (omega (arith, to-room, B .proper .formed .same-ends))) (M .to-room);
           width-room = rw (F .widths-are, length-put widths 0 (G .widths) (omega (arith, width-room, B .proper .formed .same-widths))) (M .width-room);
@@ -79,10 +79,10 @@ module _ (G : Graph) (k : ℕ) (B : Buildable G k) where
         let h : length (take n orders) ≡ n = length-take-le n orders (omega (arith, M .order-room)) in
         rw y (take-all n (take n orders) (omega arith) ∙ o)
 
-    pub first-carried : (ladder′ : List ℕ) → rowAt G ladder′ 0 ≡ identity n → sumTo m (λ j. getD (G .widths) j 0) ≤ 67107840
-        → take n orders ≡ orderOf (arcs (identity n) (G .starts) (G .ends)) n → Carried G (rowAt G ladder′) 0 froms′ tos′ widths′ sizes′ orders
-    first-carried ladder′ e narrow o =
-        let K = first-kept ladder (M .rows) in
+    pub first-carried : (rows′ : List ℕ) → rowAt G rows′ 0 ≡ identity n → sumTo m (λ j. getD (G .widths) j 0) ≤ 67107840
+        → take n orders ≡ orderOf (arcs (identity n) (G .starts) (G .ends)) n → Carried G (rowAt G rows′) 0 froms′ tos′ widths′ sizes′ orders
+    first-carried rows′ e narrow o =
+        let K = first-kept rows (M .row-room) in
         let z : getD sizes′ 0 0 ≡ m = rw (F .sizes-are) (getD-set-same sizes 0 m 0 (omega (arith, M .nine))) in
         record {
           lists = record {
@@ -109,8 +109,8 @@ module _ (G : Graph) (k : ℕ) (B : Buildable G k) where
           order = λ r l. let q : r ≡ 0 = omega arith in rw (q, e, identity-clusters n) (order-front o);
         }
 
-    pub first-links : {row head next : List ℕ} → row ≡ identity n → Linked (leave (arcs row (G .starts) (G .ends))) m head next → LinkedAt m 0 n froms′ tos′ sizes′ head next
-    first-links e L =
+    pub first-links : {head next : List ℕ} → Linked (leave (joining (G .starts) (G .ends))) m head next → LinkedAt m 0 froms′ tos′ sizes′ head next
+    first-links L =
         let z : getD sizes′ 0 0 ≡ m = rw (F .sizes-are) (getD-set-same sizes 0 m 0 (omega (arith, M .nine))) in
         record {
           linked = rw (
@@ -119,13 +119,13 @@ module _ (G : Graph) (k : ℕ) (B : Buildable G k) where
             F .tos-are,
             front froms (G .starts) from-room,
             rw (B .proper .formed .same-ends) at (front tos (G .ends) (omega (arith, to-room, B .proper .formed .same-ends))),
-          ) (rw e at L);
+          ) L;
         }
 
-  pub first-carrying : (ladder : List ℕ) {froms tos widths sizes orders weights : List ℕ} → rowAt G ladder 0 ≡ identity n → sumTo n (λ v. getD (G .costs) v 0) ≤ 33553920
-      → Carried G (rowAt G ladder) 0 froms tos widths sizes orders → length weights ≡ 512 → ((c : ℕ) → getD weights c 0 ≡ getD (G .costs) c 0)
-      → ((c : ℕ) → getD (G .costs) c 0 ≤ 65535) → Carrying G ladder 0 n froms tos widths sizes orders weights
-  first-carrying ladder e light C tall h low =
+  pub first-carrying : (rows : List ℕ) {froms tos widths sizes orders weights : List ℕ} → rowAt G rows 0 ≡ identity n → sumTo n (λ v. getD (G .costs) v 0) ≤ 33553920
+      → Carried G (rowAt G rows) 0 froms tos widths sizes orders → length weights ≡ 512 → ((c : ℕ) → getD weights c 0 ≡ getD (G .costs) c 0)
+      → ((c : ℕ) → getD (G .costs) c 0 ≤ 65535) → Carrying G rows 0 n froms tos widths sizes orders weights
+  first-carrying rows e light C tall h low =
       record {
         carried = C;
         weighed = record { tall = tall; past = λ c l. h c ∙ getD-past (G .costs) c l; light = λ c. omega (arith, h c, low c) };
@@ -142,10 +142,10 @@ module _ (G : Graph) (k : ℕ) (B : Buildable G k) where
         let z : 0 + length (take n order) ≡ n = omega (arith, whole) in
         rw o (ap (λ (i : ℕ). take i (put orders 0 (take n order))) (sym z) ∙ take-put orders (take n order) 0 (omega (arith, whole)) ∙ is)
 
-    pub ordered-room : {ladder froms tos widths sizes : List ℕ} → Room G ladder froms tos widths sizes orders → Room G ladder froms tos widths sizes orders′
+    pub ordered-room : {rows froms tos widths sizes : List ℕ} → Room G rows froms tos widths sizes orders → Room G rows froms tos widths sizes orders′
     ordered-room M =
         record {
-          rows = M .rows;
+          row-room = M .row-room;
           from-room = M .from-room;
           to-room = M .to-room;
           width-room = M .width-room;

@@ -11,13 +11,11 @@ use Rattle.folds.proofs.Cases.{by, either, eq-or-ne}
 use Rattle.folds.proofs.Sums.{sumTo-ext}
 use Rattle.folds.proofs.Slices.{length-part, length-put, length-over, take-over}
 use Rattle.folds.proofs.Parts.{part-put}
-use Rattle.graph.specs.Graph.{Graph, graphOf, vertices, edges, identity, arcs, seen, partCost, through, Proper, RowOf}
+use Rattle.graph.specs.Graph.{Graph, graphOf, vertices, edges, joining, seen, partCost, through, Proper, RowOf}
 use Rattle.graph.specs.Rows.{clusters}
-use Rattle.graph.specs.Coarse.{Coarse, Stored}
+use Rattle.graph.specs.Coarse.{Coarse, Stored, LinkedAt}
 use Rattle.graph.specs.Links.{Linked, leave}
-use Rattle.graph.proofs.Coarse.{coarse-edge}
 use Rattle.topology.specs.Order.{orderOf}
-use Rattle.topology.proofs.Same.{order-same}
 use Rattle.topology.proofs.Orders.{order-all}
 use Rattle.graph.proofs.Edges.{row-inside}
 use Rattle.contraction.specs.Next.{mateOf, nextRow, Renamed}
@@ -30,19 +28,19 @@ use Rattle.matching.proofs.Choices.{round-keeps}
 use Rattle.row_lists.specs.Carry.{Between, Maps, Next, Merged}
 use Rattle.row_lists.proofs.Carrying.{handed}
 use Rattle.hierarchy.specs.Climb.{kept}
-use Rattle.hierarchy.specs.Built.{Carries, rowAt, Climbed, Climbs, Carried, Carrying, LinkedAt, Room, HandsOn, HandedOn}
-use Rattle.hierarchy.proofs.Climbs.{next-few, rows-in}
-use Rattle.hierarchy.proofs.Handing.{next-place, identity-front}
+use Rattle.hierarchy.specs.Built.{Carries, rowAt, JoinedRow, JoinsRow, Carried, Carrying, Room, HandsOn, HandedOn}
+use Rattle.hierarchy.proofs.OneRound.{next-few, rows-in}
+use Rattle.hierarchy.proofs.Handing.{next-place}
+use Rattle.hierarchy.proofs.Carrying.{coarse-order}
 use Rattle.hierarchy.proofs.Storing.{part-before, next-of, stored-more, costs-total, renamed-through, next-costs, next-weights}
 
 -- the links of a row, as the code hands its lists on
-pub links-handed : {m r g s : ℕ} {froms tos sizes head next id : List ℕ} → id ≡ identity 512 → g ≤ 512 → s ≡ getD sizes r 0 → LinkedAt m r g froms tos sizes head next
-    → Linked (leave (arcs (take g id) (take (r * m + s - r * m) (drop (r * m) froms)) (take (r * m + s - r * m) (drop (r * m) tos)))) (length (take (r * m + s - r * m) (drop (r * m) froms))) head next
-links-handed {m} {r} {g} {s} {froms} {tos} {id = id} i l e L =
-    let own : take g id ≡ identity g = ap (take g) i ∙ identity-front g 512 l in rw (own, handed froms (r * m) s, handed tos (r * m) s, e) (L .linked)
+pub links-handed : {m r s : ℕ} {froms tos sizes head next : List ℕ} → s ≡ getD sizes r 0 → LinkedAt m r froms tos sizes head next
+    → Linked (leave (joining (take (r * m + s - r * m) (drop (r * m) froms)) (take (r * m + s - r * m) (drop (r * m) tos)))) (length (take (r * m + s - r * m) (drop (r * m) froms))) head next
+links-handed {m} {r} {s} {froms} {tos} e L = rw (handed froms (r * m) s, handed tos (r * m) s, e) (L .linked)
 
-module _ {G : Graph} {ladder : List ℕ} {r g : ℕ} {froms tos widths sizes orders weights : List ℕ} (R : Ready G (rowAt G ladder r) g) (S : Sound G (rowAt G ladder r))
-    (C : Carrying G ladder r g froms tos widths sizes orders weights) (small : g ≤ vertices G) where
+module _ {G : Graph} {rows : List ℕ} {r g : ℕ} {froms tos widths sizes orders weights : List ℕ} (R : Ready G (rowAt G rows r) g) (S : Sound G (rowAt G rows r))
+    (C : Carrying G rows r g froms tos widths sizes orders weights) (small : g ≤ vertices G) where
   abbrev n : ℕ
   n = vertices G
 
@@ -50,7 +48,7 @@ module _ {G : Graph} {ladder : List ℕ} {r g : ℕ} {froms tos widths sizes ord
   m = edges G
 
   abbrev row : List ℕ
-  row = rowAt G ladder r
+  row = rowAt G rows r
 
   pub size-few : getD sizes r 0 ≤ m
   size-few = C .carried .lists .few r (omega arith)
@@ -82,7 +80,7 @@ module _ {G : Graph} {ladder : List ℕ} {r g : ℕ} {froms tos widths sizes ord
   carries-handed {s} e room = rw (handed froms (r * m) s, handed tos (r * m) s, handed widths (r * m) s, handed orders (r * n) n, e) (carries room)
 
   -- what is handed on
-  module _ (P : Proper G) (lr : r < 8) {ladder′ : List ℕ} (M : Room G ladder′ froms tos widths sizes orders) (light : sumTo n (λ v. getD (G .costs) v 0) ≤ 33553920) where
+  module _ (P : Proper G) (lr : r < 8) {rows′ : List ℕ} (M : Room G rows′ froms tos widths sizes orders) (light : sumTo n (λ v. getD (G .costs) v 0) ≤ 33553920) where
     weights-light : sumTo g (λ c. getD weights c 0) ≤ 33553920
     weights-light = omega (arith, sumTo-ext g (λ c. getD weights c 0) (partCost (G .costs) row) (λ c _. C .costs c), costs-total G row g (R .row-of))
 
@@ -136,20 +134,20 @@ module _ {G : Graph} {ladder : List ℕ} {r g : ℕ} {froms tos widths sizes ord
     pub maps-few : clusters next ≤ n
     maps-few = next-low
 
-    module _ (k : ℕ) (lr : r < 8) (room : 9 * n ≤ length ladder) {ladder′ map : List ℕ} (e : ladder′ ≡ put ladder (r * n + n) next) (N : Renamed row next map) (light : sumTo n (λ v. getD (G .costs) v 0) ≤ 33553920)
-        (M : Room G ladder froms tos widths sizes orders)
+    module _ (k : ℕ) (lr : r < 8) (room : 9 * n ≤ length rows) {rows′ map : List ℕ} (e : rows′ ≡ put rows (r * n + n) next) (N : Renamed row next map) (light : sumTo n (λ v. getD (G .costs) v 0) ≤ 33553920)
+        (M : Room G rows froms tos widths sizes orders)
         {froms′ tos′ widths′ sizes′ orders′ weights′ : List ℕ} (H : HandedOn map n m r g (clusters next) froms tos widths sizes orders weights froms′ tos′ widths′ sizes′ orders′ weights′) where
       long : length next ≡ n
       long = next-length ∙ R .row-of .whole
 
-      fits : r * n + n + n ≤ length ladder
-      fits = rows-in r n (length ladder) lr room
+      fits : r * n + n + n ≤ length rows
+      fits = rows-in r n (length rows) lr room
 
-      row-new : rowAt G ladder′ (r + 1) ≡ next
-      row-new = rw (e, next-of r n) (rw long at (part-put ladder next (r * n + n) (omega (arith, long, fits))))
+      row-new : rowAt G rows′ (r + 1) ≡ next
+      row-new = rw (e, next-of r n) (rw long at (part-put rows next (r * n + n) (omega (arith, long, fits))))
 
-      row-old : (q : ℕ) → q ≤ r → rowAt G ladder′ q ≡ rowAt G ladder q
-      row-old q l = rw e (part-before ladder next (r * n + n) (q * n) n (omega (arith, long, fits)) (omega (arith, mul-le-mul-right n l)))
+      row-old : (q : ℕ) → q ≤ r → rowAt G rows′ q ≡ rowAt G rows q
+      row-old q l = rw e (part-before rows next (r * n + n) (q * n) n (omega (arith, long, fits)) (omega (arith, mul-le-mul-right n l)))
 
       joined : Coarse G next (clusters next) (H .next .from) (H .next .to) (H .next .width)
       joined =
@@ -157,13 +155,13 @@ module _ {G : Graph} {ladder : List ℕ} {r g : ℕ} {froms tos widths sizes ord
           rw t at (joined-twice (P .formed) (R .row-of) lists (H .next .lists))
 
       abbrev order : List ℕ
-      order = orderOf (arcs (identity (clusters next)) (H .next .from) (H .next .to)) (clusters next)
+      order = orderOf (joining (H .next .from) (H .next .to)) (clusters next)
 
       abbrev placed : List ℕ
       placed = over order (part orders (r * n + n) n)
 
       order-is : order ≡ orderOf (seen G next) (clusters next)
-      order-is = order-same (arcs (identity (clusters next)) (H .next .from) (H .next .to)) (seen G next) (coarse-edge joined (P .formed) next-row (P .wide)) (clusters next)
+      order-is = coarse-order joined P next-row
 
       order-length : length order ≡ clusters next
       order-length =
@@ -181,14 +179,14 @@ module _ {G : Graph} {ladder : List ℕ} {r g : ℕ} {froms tos widths sizes ord
       new-order =
           rw (H .orders-are, next-of r n, rw placed-length at (part-put orders placed (r * n + n) (omega (arith, placed-length, order-fits))), take-over order (part orders (r * n + n) n) (clusters next) order-length) order-is
 
-      old-order : (q : ℕ) → q ≤ r → take (clusters (rowAt G ladder q)) (part orders′ (q * n) n) ≡ orderOf (seen G (rowAt G ladder q)) (clusters (rowAt G ladder q))
+      old-order : (q : ℕ) → q ≤ r → take (clusters (rowAt G rows q)) (part orders′ (q * n) n) ≡ orderOf (seen G (rowAt G rows q)) (clusters (rowAt G rows q))
       old-order q l =
           rw (H .orders-are, part-before orders placed (r * n + n) (q * n) n (omega (arith, placed-length, order-fits)) (omega (arith, mul-le-mul-right n l))) (C .carried .order q l)
 
       place : r * m + m + m ≤ 9 * m
       place = next-place r m lr
 
-      pub steps-some : Carrying G ladder′ (r + 1) (clusters next) froms′ tos′ widths′ sizes′ orders′ weights′
+      pub steps-some : Carrying G rows′ (r + 1) (clusters next) froms′ tos′ widths′ sizes′ orders′ weights′
       steps-some =
           record {
             carried = record {
@@ -202,10 +200,10 @@ module _ {G : Graph} {ladder : List ℕ} {r g : ℕ} {froms tos widths sizes ord
             costs = rw row-new (next-costs (P .formed) (R .row-of) next-row N next-length (H .merged) (C .costs));
           }
 
-      pub steps-room : Room G ladder′ froms′ tos′ widths′ sizes′ orders′
+      pub steps-room : Room G rows′ froms′ tos′ widths′ sizes′ orders′
       steps-room =
           record {
-            rows = rw (e, length-put ladder (r * n + n) next (omega (arith, long, fits))) room;
+            row-room = rw (e, length-put rows (r * n + n) next (omega (arith, long, fits))) room;
             from-room = rw (H .next .froms-are, length-put froms (r * m + m) (H .next .from) (omega (arith, H .next .counts, H .next .few, size-few, place, M .from-room))) (M .from-room);
             to-room = rw (H .next .tos-are, length-put tos (r * m + m) (H .next .to) (omega (arith, H .next .lists .same-ends, H .next .counts, H .next .few, size-few, place, M .to-room))) (M .to-room);
             width-room = rw (H .next .widths-are, length-put widths (r * m + m) (H .next .width) (omega (arith, H .next .lists .same-widths, H .next .counts, H .next .few, size-few, place, M .width-room))) (M .width-room);
@@ -218,13 +216,13 @@ pub list-fits : (r m size x : ℕ) {s : ℕ} → s ≡ size → size ≤ m → s
 list-fits r m size x e l h = omega (arith, suc-mul r m)
 
 -- a round that was kept, and one that was not
-pub climbed-some : {G : Graph} {k bound r : ℕ} {ladder ladder′ : List ℕ} {x : ℕ} → Climbed G k bound r ladder ladder′ x → (x ≡ 0 → ⊥)
-    → (ladder′ ≡ put ladder (r * vertices G + vertices G) (nextRow (rowAt G ladder r) (roundOf G bound (rowAt G ladder r)))) × (x ≡ clusters (nextRow (rowAt G ladder r) (roundOf G bound (rowAt G ladder r))))
-climbed-some {G} {k} {bound} {r} {ladder} {ladder′} {x} D z =
-    by (kept G k bound (rowAt G ladder r) (roundOf G bound (rowAt G ladder r))) (λ t. (rw t at (D .ladder-is), rw t at (D .answer-is))) (λ t. let a : x ≡ 0 = rw t at (D .answer-is) in absurd (z a))
+pub joined-some : {G : Graph} {k bound r : ℕ} {rows rows′ : List ℕ} {x : ℕ} → JoinedRow G k bound r rows rows′ x → (x ≡ 0 → ⊥)
+    → (rows′ ≡ put rows (r * vertices G + vertices G) (nextRow (rowAt G rows r) (roundOf G bound (rowAt G rows r)))) × (x ≡ clusters (nextRow (rowAt G rows r) (roundOf G bound (rowAt G rows r))))
+joined-some {G} {k} {bound} {r} {rows} {rows′} {x} D z =
+    by (kept G k bound (rowAt G rows r) (roundOf G bound (rowAt G rows r))) (λ t. (rw t at (D .rows-are), rw t at (D .answer-is))) (λ t. let a : x ≡ 0 = rw t at (D .answer-is) in absurd (z a))
 
-pub climbed-none : {G : Graph} {k bound r g : ℕ} {ladder ladder′ : List ℕ} {x : ℕ} → Proper G → Ready G (rowAt G ladder r) g → Climbed G k bound r ladder ladder′ x → x ≡ 0 → ladder′ ≡ ladder
-climbed-none {G} {k} {bound} {r} {g} {ladder} {ladder′} {x} P R D z =
-    let next = nextRow (rowAt G ladder r) (roundOf G bound (rowAt G ladder r)) in
-    let some = below-clusters next 0 (omega (arith, length-next (rowAt G ladder r) (mateOf (roundOf G bound (rowAt G ladder r))), R .row-of .whole, P .some)) in
-    by (kept G k bound (rowAt G ladder r) (roundOf G bound (rowAt G ladder r))) (λ t. let a : x ≡ clusters next = rw t at (D .answer-is) in absurd (omega arith)) (λ t. rw t at (D .ladder-is))
+pub joined-none : {G : Graph} {k bound r g : ℕ} {rows rows′ : List ℕ} {x : ℕ} → Proper G → Ready G (rowAt G rows r) g → JoinedRow G k bound r rows rows′ x → x ≡ 0 → rows′ ≡ rows
+joined-none {G} {k} {bound} {r} {g} {rows} {rows′} {x} P R D z =
+    let next = nextRow (rowAt G rows r) (roundOf G bound (rowAt G rows r)) in
+    let some = below-clusters next 0 (omega (arith, length-next (rowAt G rows r) (mateOf (roundOf G bound (rowAt G rows r))), R .row-of .whole, P .some)) in
+    by (kept G k bound (rowAt G rows r) (roundOf G bound (rowAt G rows r))) (λ t. let a : x ≡ clusters next = rw t at (D .answer-is) in absurd (omega arith)) (λ t. rw t at (D .rows-are))

@@ -5,10 +5,9 @@ use mathlib.Core.List.{List}
 use lib.ListN.{length, getD, set, take}
 use Rattle.folds.specs.Fold.{pick, when, sumTo, over, put, part}
 use Rattle.graph.specs.Walk.{Acyclic}
-use Rattle.graph.specs.Graph.{Graph, vertices, edges, identity, arcs, seen, Edge, partCost, Proper}
+use Rattle.graph.specs.Graph.{Graph, vertices, edges, identity, joining, seen, Edge, partCost, Proper}
 use Rattle.graph.specs.Rows.{clusters}
-use Rattle.graph.specs.Coarse.{Coarse, Stored}
-use Rattle.graph.specs.Links.{Linked, leave}
+use Rattle.graph.specs.Coarse.{Coarse, Stored, LinkedAt}
 use Rattle.topology.specs.Order.{orderOf}
 use Rattle.levels.specs.Sweep.{Ordered}
 use Rattle.contraction.specs.Next.{nextRow, Renamed}
@@ -25,21 +24,21 @@ pub record Carries (G : Graph) (row : List ℕ) (g : ℕ) (weights froms tos wid
   pub costs : (c : ℕ) → getD weights c 0 ≡ partCost (G .costs) row c
   pub ordered : Ordered (seen G row) g order
 
--- row r of the ladder
+-- row r of those that lie end to end
 abbrev pub rowAt : Graph → List ℕ → ℕ → List ℕ
-rowAt G ladder r = part ladder (r * vertices G) (vertices G)
+rowAt G rows r = part rows (r * vertices G) (vertices G)
 
 -- a round on row r: where it is kept, its row stands after row r, and it answers how many clusters that has; else 0, and all is as it was
-pub record Climbed (G : Graph) (k bound r : ℕ) (ladder ladder′ : List ℕ) (answer : ℕ) : Type 0 where
-  pub ladder-is : ladder′ ≡ pick (kept G k bound (rowAt G ladder r) (roundOf G bound (rowAt G ladder r)))
-      (put ladder (r * vertices G + vertices G) (nextRow (rowAt G ladder r) (roundOf G bound (rowAt G ladder r)))) ladder
-  pub answer-is : answer ≡ when (kept G k bound (rowAt G ladder r) (roundOf G bound (rowAt G ladder r)))
-      (clusters (nextRow (rowAt G ladder r) (roundOf G bound (rowAt G ladder r))))
+pub record JoinedRow (G : Graph) (k bound r : ℕ) (rows rows′ : List ℕ) (answer : ℕ) : Type 0 where
+  pub rows-are : rows′ ≡ pick (kept G k bound (rowAt G rows r) (roundOf G bound (rowAt G rows r)))
+      (put rows (r * vertices G + vertices G) (nextRow (rowAt G rows r) (roundOf G bound (rowAt G rows r)))) rows
+  pub answer-is : answer ≡ when (kept G k bound (rowAt G rows r) (roundOf G bound (rowAt G rows r)))
+      (clusters (nextRow (rowAt G rows r) (roundOf G bound (rowAt G rows r))))
 
 -- where the round was kept, map has the new number of each cluster
-pub record Climbs (G : Graph) (k bound r : ℕ) (ladder ladder′ map : List ℕ) (answer : ℕ) : Type 0 where
-  pub climbed : Climbed G k bound r ladder ladder′ answer
-  pub renamed : (answer ≡ 0 → ⊥) → Renamed (rowAt G ladder r) (nextRow (rowAt G ladder r) (roundOf G bound (rowAt G ladder r))) map
+pub record JoinsRow (G : Graph) (k bound r : ℕ) (rows rows′ map : List ℕ) (answer : ℕ) : Type 0 where
+  pub joined : JoinedRow G k bound r rows rows′ answer
+  pub renamed : (answer ≡ 0 → ⊥) → Renamed (rowAt G rows r) (nextRow (rowAt G rows r) (roundOf G bound (rowAt G rows r))) map
 
 -- the lists and the topological orders of rows 0 to top, each end to end
 pub record Carried (G : Graph) (rows : ℕ → List ℕ) (top : ℕ) (froms tos widths sizes orders : List ℕ) : Type 0 where
@@ -49,29 +48,27 @@ pub record Carried (G : Graph) (rows : ℕ → List ℕ) (top : ℕ) (froms tos 
   pub order : (r : ℕ) → r ≤ top → take (clusters (rows r)) (part orders (r * vertices G) (vertices G)) ≡ orderOf (seen G (rows r)) (clusters (rows r))
 
 -- what is carried up to row r, which has g clusters: lists, orders, and the clusters' costs
-pub record Carrying (G : Graph) (ladder : List ℕ) (r g : ℕ) (froms tos widths sizes orders weights : List ℕ) : Type 0 where
-  pub carried : Carried G (rowAt G ladder) r froms tos widths sizes orders
+pub record Carrying (G : Graph) (rows : List ℕ) (r g : ℕ) (froms tos widths sizes orders weights : List ℕ) : Type 0 where
+  pub carried : Carried G (rowAt G rows) r froms tos widths sizes orders
   pub weighed : Weights g weights
-  pub costs : (c : ℕ) → getD weights c 0 ≡ partCost (G .costs) (rowAt G ladder r) c
-
--- the links of the edges that leave each of the g clusters of row r, by its lists
-pub record LinkedAt (m r g : ℕ) (froms tos sizes head next : List ℕ) : Type 0 where
-  pub linked : Linked (leave (arcs (identity g) (part froms (r * m) (getD sizes r 0)) (part tos (r * m) (getD sizes r 0)))) (length (part froms (r * m) (getD sizes r 0))) head next
+  pub costs : (c : ℕ) → getD weights c 0 ≡ partCost (G .costs) (rowAt G rows r) c
 
 -- room for nine rows, their lists and their orders
-pub record Room (G : Graph) (ladder froms tos widths sizes orders : List ℕ) : Type 0 where
-  pub rows : 9 * vertices G ≤ length ladder
+pub record Room (G : Graph) (rows froms tos widths sizes orders : List ℕ) : Type 0 where
+  pub row-room : 9 * vertices G ≤ length rows
   pub from-room : 9 * edges G ≤ length froms
   pub to-room : 9 * edges G ≤ length tos
   pub width-room : 9 * edges G ≤ length widths
   pub nine : length sizes ≡ 9
   pub order-room : 9 * vertices G ≤ length orders
 
--- a round on row r, with what is then carried: as it was, or up to row r + 1
-pub record Steps (G : Graph) (k bound r : ℕ) (ladder ladder′ froms tos widths sizes orders weights : List ℕ) (answer : ℕ) : Type 0 where
-  pub climbed : Climbed G k bound r ladder ladder′ answer
-  pub none : answer ≡ 0 → Carried G (rowAt G ladder′) r froms tos widths sizes orders
-  pub some : (answer ≡ 0 → ⊥) → Carrying G ladder′ (r + 1) answer froms tos widths sizes orders weights
+-- a round on row r, with what is then carried: as it was, or up to row r + 1; the links are those of the last row
+pub record Steps (G : Graph) (k bound r : ℕ) (rows rows′ froms tos widths sizes orders weights head next : List ℕ) (answer : ℕ) : Type 0 where
+  pub joined : JoinedRow G k bound r rows rows′ answer
+  pub none : answer ≡ 0 → Carried G (rowAt G rows′) r froms tos widths sizes orders
+  pub some : (answer ≡ 0 → ⊥) → Carrying G rows′ (r + 1) answer froms tos widths sizes orders weights
+  pub links-stay : answer ≡ 0 → LinkedAt (edges G) r froms tos sizes head next
+  pub links-next : (answer ≡ 0 → ⊥) → LinkedAt (edges G) (r + 1) froms tos sizes head next
 
 -- row r has `size` edges, and there is room for those of row r + 1 and its order
 pub record HandsOn (n m r g : ℕ) (froms tos widths sizes orders weights : List ℕ) : Type 0 where
@@ -94,7 +91,7 @@ pub record HandedOn (map : List ℕ) (n m r g h : ℕ) (froms tos widths sizes o
   pub next : Next map g h (r * m) (getD sizes r 0) (r * m + m) froms tos widths froms′ tos′ widths′ count
   pub sizes-are : sizes′ ≡ set sizes (r + 1) count
   pub merged : Merged map weights g weights′
-  pub orders-are : orders′ ≡ put orders (r * n + n) (over (orderOf (arcs (identity h) (next .from) (next .to)) h) (part orders (r * n + n) n))
+  pub orders-are : orders′ ≡ put orders (r * n + n) (over (orderOf (joining (next .from) (next .to)) h) (part orders (r * n + n) n))
 
 -- a graph whose hierarchy can be built
 pub record Buildable (G : Graph) (k : ℕ) : Type 0 where
@@ -104,7 +101,7 @@ pub record Buildable (G : Graph) (k : ℕ) : Type 0 where
   pub acyclic : Acyclic (Edge (seen G (identity (vertices G))))
   pub few : k ≤ 16
 
--- the rounds kept, and the whole ladder afterwards
-pub record Built (G : Graph) (k bound : ℕ) (ladder ladder′ : List ℕ) (answer : ℕ) : Type 0 where
+-- the rounds kept, and all rows afterwards
+pub record Built (G : Graph) (k bound : ℕ) (rows rows′ : List ℕ) (answer : ℕ) : Type 0 where
   pub kept-is : answer ≡ keptOf G k bound
-  pub ladder-is : ladder′ ≡ ladderAfter G k bound ladder
+  pub ladder-is : rows′ ≡ ladderAfter G k bound rows

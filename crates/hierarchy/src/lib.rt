@@ -3,51 +3,13 @@ ghost use mathlib.Core.Path.{_≡_};
 ghost use Prim.Native.Nat.{_+_, _*_, _<_, _≤_};
 ghost use lib.ListN.{length, take};
 ghost use Rattle.contraction.proofs.Rounds.{Sound};
-ghost use Rattle.graph.specs.Graph.{graphOf, identity, arcs};
+ghost use Rattle.graph.specs.Graph.{graphOf, identity, arcs, joining};
 ghost use Rattle.graph.specs.Links.{Linked, leave};
+ghost use Rattle.graph.specs.Coarse.{LinkedAt};
 ghost use Rattle.topology.specs.Order.{orderOf};
-ghost use Rattle.matching.specs.Held.{Ready, Matched};
+ghost use Rattle.matching.specs.Held.{Ready};
 ghost use Rattle.row_lists.specs.Carry.{Maps};
-ghost use Rattle.hierarchy.specs.Built.{Carries, rowAt, Climbs, Carried, Carrying, LinkedAt, Room, Steps, HandsOn, HandedOn, Buildable, Built};
-
-// The pairs of a round on a row of g clusters, by its lists: the mate of each cluster. Answers how many pairs there are.
-fn try_round(
-    costs: &[u16],
-    row: &[u16],
-    starts: &[u16],
-    ends: &[u16],
-    widths: &[u16],
-    id: &[u16],
-    weights: &[u32; 512],
-    from: &[u16],
-    to: &[u16],
-    width: &[u32],
-    head: &[u16; 513],
-    next: &[u16; 1024],
-    order: &[u16],
-    g: usize,
-    bound: u32,
-    mates: &mut [u16; 512],
-) -> usize
-    requires { ⌜ Ready (graphOf (now costs) (now starts) (now ends) (now widths)) (now row) g ⌝ }
-    requires { ⌜ Carries (graphOf (now costs) (now starts) (now ends) (now widths)) (now row) g (now weights) (now from) (now to) (now width) (now order) ⌝ }
-    requires { ⌜ (now id ≡ identity g) × Linked (leave (arcs (now id) (now from) (now to))) (length (now from)) (now head) (now next) ⌝ }
-    ensures { λ r. ⌜ Matched (graphOf (now (costs .entry)) (now (starts .entry)) (now (ends .entry)) (now (widths .entry))) bound (now (row .entry)) (now (mates .exit)) r ⌝ }
-{
-    matching::round(
-        weights,
-        id,
-        from,
-        to,
-        width,
-        head,
-        next,
-        order,
-        g,
-        bound,
-        mates,
-    )
-}
+ghost use Rattle.hierarchy.specs.Built.{Carries, rowAt, JoinsRow, Carried, Carrying, Room, Steps, HandsOn, HandedOn, Buildable, Built};
 
 // The front of an array into a row.
 fn copy_row(src: &[u16; 512], row: &mut [u16])
@@ -74,14 +36,13 @@ fn first_row(row: &mut [u16])
 }
 
 // A round on row r, whose row follows it where the round is kept. Answers its clusters, or 0 where no round was kept.
-fn climb(
+fn join_row(
     costs: &[u16],
     starts: &[u16],
     ends: &[u16],
     widths: &[u16],
     k: usize,
     bound: u32,
-    id: &[u16],
     weights: &[u32; 512],
     from: &[u16],
     to: &[u16],
@@ -90,16 +51,15 @@ fn climb(
     next: &[u16; 1024],
     order: &[u16],
     map: &mut [u16; 512],
-    ladder: &mut [u16],
+    rows: &mut [u16],
     r: usize,
     g: usize,
 ) -> usize
-    requires { ⌜ Ready (graphOf (now costs) (now starts) (now ends) (now widths)) (rowAt (graphOf (now costs) (now starts) (now ends) (now widths)) (now ladder) r) g ⌝ }
-    requires { ⌜ Carries (graphOf (now costs) (now starts) (now ends) (now widths)) (rowAt (graphOf (now costs) (now starts) (now ends) (now widths)) (now ladder) r) g (now weights) (now from) (now to) (now width) (now order) ⌝ }
-    requires { ⌜ now id ≡ identity g ⌝ }
-    requires { ⌜ (r < 8) × (k ≤ 16) × Linked (leave (arcs (now id) (now from) (now to))) (length (now from)) (now head) (now next) ⌝ }
-    requires { ⌜ 9 * length (now costs) ≤ length (now ladder) ⌝ }
-    ensures { λ x. ⌜ Climbs (graphOf (now (costs .entry)) (now (starts .entry)) (now (ends .entry)) (now (widths .entry))) k bound r (now (ladder .entry)) (now (ladder .exit)) (now (map .exit)) x ⌝ }
+    requires { ⌜ Ready (graphOf (now costs) (now starts) (now ends) (now widths)) (rowAt (graphOf (now costs) (now starts) (now ends) (now widths)) (now rows) r) g ⌝ }
+    requires { ⌜ Carries (graphOf (now costs) (now starts) (now ends) (now widths)) (rowAt (graphOf (now costs) (now starts) (now ends) (now widths)) (now rows) r) g (now weights) (now from) (now to) (now width) (now order) ⌝ }
+    requires { ⌜ (r < 8) × (k ≤ 16) × Linked (leave (joining (now from) (now to))) (length (now from)) (now head) (now next) ⌝ }
+    requires { ⌜ 9 * length (now costs) ≤ length (now rows) ⌝ }
+    ensures { λ x. ⌜ JoinsRow (graphOf (now (costs .entry)) (now (starts .entry)) (now (ends .entry)) (now (widths .entry))) k bound r (now (rows .entry)) (now (rows .exit)) (now (map .exit)) x ⌝ }
 {
     if g <= 2 * k {
         return 0;
@@ -109,13 +69,7 @@ fn climb(
     let b = a + n;
     let e = b + n;
     let mut mates = [0; 512];
-    let pairs = try_round(
-        costs,
-        &ladder[a..b],
-        starts,
-        ends,
-        widths,
-        id,
+    let pairs = matching::round(
         weights,
         from,
         to,
@@ -131,14 +85,13 @@ fn climb(
         return 0;
     }
     let mut out = [0; 512];
-    let h = contraction::next_row(&ladder[a..b], &mates, map, &mut out);
-    copy_row(&out, &mut ladder[b..e]);
+    let h = contraction::next_row(&rows[a..b], &mates, map, &mut out);
+    copy_row(&out, &mut rows[b..e]);
     h
 }
 
 // The lists, the costs, the order and the links of row r + 1 after those of row r: map gives each of the g clusters its new number, one of h.
 fn hand_on(
-    id: &[u16],
     map: &[u16; 512],
     n: usize,
     m: usize,
@@ -154,10 +107,10 @@ fn hand_on(
     head: &mut [u16; 513],
     next: &mut [u16; 1024],
 )
-    requires { ⌜ Maps (now map) g h × (now id ≡ identity 512) × (h ≤ n) × (length (now next) ≡ 1024) ⌝ }
+    requires { ⌜ Maps (now map) g h × (h ≤ n) × (length (now next) ≡ 1024) ⌝ }
     requires { ⌜ HandsOn n m r g (now froms) (now tos) (now wides) (now sizes) (now orders) (now weights) ⌝ }
     ensures { λ _. ⌜ HandedOn (now (map .entry)) n m r g h (now (froms .entry)) (now (tos .entry)) (now (wides .entry)) (now (sizes .entry)) (now (orders .entry)) (now (weights .entry)) (now (froms .exit)) (now (tos .exit)) (now (wides .exit)) (now (sizes .exit)) (now (orders .exit)) (now (weights .exit)) ⌝ }
-    ensures { λ _. ⌜ LinkedAt m (r + 1) h (now (froms .exit)) (now (tos .exit)) (now (sizes .exit)) (now (head .exit)) (now (next .exit)) ⌝ }
+    ensures { λ _. ⌜ LinkedAt m (r + 1) (now (froms .exit)) (now (tos .exit)) (now (sizes .exit)) (now (head .exit)) (now (next .exit)) ⌝ }
 {
     let size = folds::wide(sizes[r]);
     let a = r * m;
@@ -167,23 +120,21 @@ fn hand_on(
     row_lists::merge(map, g, weights);
     let e = b + count;
     let c = r * n + n;
-    let own = &id[..h];
     let from = &froms[b..e];
     let to = &tos[b..e];
-    graph::fill_leaving(own, from, to, head, next);
-    topology::order_by(own, from, to, head, next, h, &mut orders[c..c + n]);
+    graph::link_leaving(from, to, head, next);
+    topology::order_by(from, to, head, next, h, &mut orders[c..c + n]);
 }
 
 // The round on row r, by what is carried of it.
-fn climb_at(
+fn join_at(
     costs: &[u16],
     starts: &[u16],
     ends: &[u16],
     widths: &[u16],
     k: usize,
     bound: u32,
-    id: &[u16],
-    ladder: &mut [u16],
+    rows: &mut [u16],
     froms: &[u16],
     tos: &[u16],
     wides: &[u32],
@@ -196,11 +147,11 @@ fn climb_at(
     r: usize,
     g: usize,
 ) -> usize
-    requires { ⌜ Ready (graphOf (now costs) (now starts) (now ends) (now widths)) (rowAt (graphOf (now costs) (now starts) (now ends) (now widths)) (now ladder) r) g × Sound (graphOf (now costs) (now starts) (now ends) (now widths)) (rowAt (graphOf (now costs) (now starts) (now ends) (now widths)) (now ladder) r) ⌝ }
-    requires { ⌜ Carrying (graphOf (now costs) (now starts) (now ends) (now widths)) (now ladder) r g (now froms) (now tos) (now wides) (now sizes) (now orders) (now weights) ⌝ }
-    requires { ⌜ Room (graphOf (now costs) (now starts) (now ends) (now widths)) (now ladder) (now froms) (now tos) (now wides) (now sizes) (now orders) ⌝ }
-    requires { ⌜ (r < 8) × (k ≤ 16) × (now id ≡ identity 512) × (g ≤ length (now costs)) × LinkedAt (length (now starts)) r g (now froms) (now tos) (now sizes) (now head) (now next) ⌝ }
-    ensures { λ x. ⌜ Climbs (graphOf (now (costs .entry)) (now (starts .entry)) (now (ends .entry)) (now (widths .entry))) k bound r (now (ladder .entry)) (now (ladder .exit)) (now (map .exit)) x ⌝ }
+    requires { ⌜ Ready (graphOf (now costs) (now starts) (now ends) (now widths)) (rowAt (graphOf (now costs) (now starts) (now ends) (now widths)) (now rows) r) g × Sound (graphOf (now costs) (now starts) (now ends) (now widths)) (rowAt (graphOf (now costs) (now starts) (now ends) (now widths)) (now rows) r) ⌝ }
+    requires { ⌜ Carrying (graphOf (now costs) (now starts) (now ends) (now widths)) (now rows) r g (now froms) (now tos) (now wides) (now sizes) (now orders) (now weights) ⌝ }
+    requires { ⌜ Room (graphOf (now costs) (now starts) (now ends) (now widths)) (now rows) (now froms) (now tos) (now wides) (now sizes) (now orders) ⌝ }
+    requires { ⌜ (r < 8) × (k ≤ 16) × (g ≤ length (now costs)) × LinkedAt (length (now starts)) r (now froms) (now tos) (now sizes) (now head) (now next) ⌝ }
+    ensures { λ x. ⌜ JoinsRow (graphOf (now (costs .entry)) (now (starts .entry)) (now (ends .entry)) (now (widths .entry))) k bound r (now (rows .entry)) (now (rows .exit)) (now (map .exit)) x ⌝ }
 {
     let n = costs.len();
     let size = folds::wide(sizes[r]);
@@ -208,14 +159,13 @@ fn climb_at(
     let b = a + n;
     let c = r * starts.len();
     let d = c + size;
-    climb(
+    join_row(
         costs,
         starts,
         ends,
         widths,
         k,
         bound,
-        &id[..g],
         weights,
         &froms[c..d],
         &tos[c..d],
@@ -224,7 +174,7 @@ fn climb_at(
         next,
         &orders[a..b],
         map,
-        ladder,
+        rows,
         r,
         g,
     )
@@ -239,8 +189,7 @@ fn step(
     widths: &[u16],
     k: usize,
     bound: u32,
-    id: &[u16],
-    ladder: &mut [u16],
+    rows: &mut [u16],
     froms: &mut [u16],
     tos: &mut [u16],
     wides: &mut [u32],
@@ -252,24 +201,22 @@ fn step(
     r: usize,
     g: usize,
 ) -> usize
-    requires { ⌜ Ready (graphOf (now costs) (now starts) (now ends) (now widths)) (rowAt (graphOf (now costs) (now starts) (now ends) (now widths)) (now ladder) r) g × Sound (graphOf (now costs) (now starts) (now ends) (now widths)) (rowAt (graphOf (now costs) (now starts) (now ends) (now widths)) (now ladder) r) ⌝ }
-    requires { ⌜ Carrying (graphOf (now costs) (now starts) (now ends) (now widths)) (now ladder) r g (now froms) (now tos) (now wides) (now sizes) (now orders) (now weights) ⌝ }
-    requires { ⌜ Room (graphOf (now costs) (now starts) (now ends) (now widths)) (now ladder) (now froms) (now tos) (now wides) (now sizes) (now orders) ⌝ }
-    requires { ⌜ (r < 8) × (k ≤ 16) × (now id ≡ identity 512) × (g ≤ length (now costs)) × LinkedAt (length (now starts)) r g (now froms) (now tos) (now sizes) (now head) (now next) ⌝ }
-    ensures { λ x. ⌜ Steps (graphOf (now (costs .entry)) (now (starts .entry)) (now (ends .entry)) (now (widths .entry))) k bound r (now (ladder .entry)) (now (ladder .exit)) (now (froms .exit)) (now (tos .exit)) (now (wides .exit)) (now (sizes .exit)) (now (orders .exit)) (now (weights .exit)) x ⌝ }
-    ensures { λ _. ⌜ Room (graphOf (now (costs .entry)) (now (starts .entry)) (now (ends .entry)) (now (widths .entry))) (now (ladder .exit)) (now (froms .exit)) (now (tos .exit)) (now (wides .exit)) (now (sizes .exit)) (now (orders .exit)) ⌝ }
-    ensures { λ x. ⌜ ((x ≡ 0 → ⊥) → LinkedAt (length (now (starts .entry))) (r + 1) x (now (froms .exit)) (now (tos .exit)) (now (sizes .exit)) (now (head .exit)) (now (next .exit))) ⌝ }
+    requires { ⌜ Ready (graphOf (now costs) (now starts) (now ends) (now widths)) (rowAt (graphOf (now costs) (now starts) (now ends) (now widths)) (now rows) r) g × Sound (graphOf (now costs) (now starts) (now ends) (now widths)) (rowAt (graphOf (now costs) (now starts) (now ends) (now widths)) (now rows) r) ⌝ }
+    requires { ⌜ Carrying (graphOf (now costs) (now starts) (now ends) (now widths)) (now rows) r g (now froms) (now tos) (now wides) (now sizes) (now orders) (now weights) ⌝ }
+    requires { ⌜ Room (graphOf (now costs) (now starts) (now ends) (now widths)) (now rows) (now froms) (now tos) (now wides) (now sizes) (now orders) ⌝ }
+    requires { ⌜ (r < 8) × (k ≤ 16) × (g ≤ length (now costs)) × LinkedAt (length (now starts)) r (now froms) (now tos) (now sizes) (now head) (now next) ⌝ }
+    ensures { λ x. ⌜ Steps (graphOf (now (costs .entry)) (now (starts .entry)) (now (ends .entry)) (now (widths .entry))) k bound r (now (rows .entry)) (now (rows .exit)) (now (froms .exit)) (now (tos .exit)) (now (wides .exit)) (now (sizes .exit)) (now (orders .exit)) (now (weights .exit)) (now (head .exit)) (now (next .exit)) x ⌝ }
+    ensures { λ _. ⌜ Room (graphOf (now (costs .entry)) (now (starts .entry)) (now (ends .entry)) (now (widths .entry))) (now (rows .exit)) (now (froms .exit)) (now (tos .exit)) (now (wides .exit)) (now (sizes .exit)) (now (orders .exit)) ⌝ }
 {
     let mut map = [0; 512];
-    let h = climb_at(
+    let h = join_at(
         costs,
         starts,
         ends,
         widths,
         k,
         bound,
-        id,
-        ladder,
+        rows,
         froms,
         tos,
         wides,
@@ -286,7 +233,6 @@ fn step(
         return 0;
     }
     hand_on(
-        id,
         &map,
         costs.len(),
         starts.len(),
@@ -305,15 +251,15 @@ fn step(
     h
 }
 
-// The rounds above row 0, which stands in the front of the ladder, with what is carried of it. Answers how many were kept.
-fn rise(
+// The rounds above row 0, which stands in front, with what is carried of it. Answers how many were kept; the links are those of the last row.
+fn join_rows(
     costs: &[u16],
     starts: &[u16],
     ends: &[u16],
     widths: &[u16],
     k: usize,
     bound: u32,
-    ladder: &mut [u16],
+    rows: &mut [u16],
     froms: &mut [u16],
     tos: &mut [u16],
     wides: &mut [u32],
@@ -323,16 +269,15 @@ fn rise(
     next: &mut [u16; 1024],
 ) -> usize
     requires { ⌜ Buildable (graphOf (now costs) (now starts) (now ends) (now widths)) k ⌝ }
-    requires { ⌜ Room (graphOf (now costs) (now starts) (now ends) (now widths)) (now ladder) (now froms) (now tos) (now wides) (now sizes) (now orders) ⌝ }
-    requires { ⌜ rowAt (graphOf (now costs) (now starts) (now ends) (now widths)) (now ladder) 0 ≡ identity (length (now costs)) ⌝ }
-    requires { ⌜ Carried (graphOf (now costs) (now starts) (now ends) (now widths)) (rowAt (graphOf (now costs) (now starts) (now ends) (now widths)) (now ladder)) 0 (now froms) (now tos) (now wides) (now sizes) (now orders) ⌝ }
-    requires { ⌜ LinkedAt (length (now starts)) 0 (length (now costs)) (now froms) (now tos) (now sizes) (now head) (now next) ⌝ }
-    ensures { λ x. ⌜ Built (graphOf (now (costs .entry)) (now (starts .entry)) (now (ends .entry)) (now (widths .entry))) k bound (now (ladder .entry)) (now (ladder .exit)) x ⌝ }
-    ensures { λ x. ⌜ Carried (graphOf (now (costs .entry)) (now (starts .entry)) (now (ends .entry)) (now (widths .entry))) (rowAt (graphOf (now (costs .entry)) (now (starts .entry)) (now (ends .entry)) (now (widths .entry))) (now (ladder .exit))) x (now (froms .exit)) (now (tos .exit)) (now (wides .exit)) (now (sizes .exit)) (now (orders .exit)) ⌝ }
+    requires { ⌜ Room (graphOf (now costs) (now starts) (now ends) (now widths)) (now rows) (now froms) (now tos) (now wides) (now sizes) (now orders) ⌝ }
+    requires { ⌜ rowAt (graphOf (now costs) (now starts) (now ends) (now widths)) (now rows) 0 ≡ identity (length (now costs)) ⌝ }
+    requires { ⌜ Carried (graphOf (now costs) (now starts) (now ends) (now widths)) (rowAt (graphOf (now costs) (now starts) (now ends) (now widths)) (now rows)) 0 (now froms) (now tos) (now wides) (now sizes) (now orders) ⌝ }
+    requires { ⌜ LinkedAt (length (now starts)) 0 (now froms) (now tos) (now sizes) (now head) (now next) ⌝ }
+    ensures { λ x. ⌜ Built (graphOf (now (costs .entry)) (now (starts .entry)) (now (ends .entry)) (now (widths .entry))) k bound (now (rows .entry)) (now (rows .exit)) x ⌝ }
+    ensures { λ x. ⌜ Carried (graphOf (now (costs .entry)) (now (starts .entry)) (now (ends .entry)) (now (widths .entry))) (rowAt (graphOf (now (costs .entry)) (now (starts .entry)) (now (ends .entry)) (now (widths .entry))) (now (rows .exit))) x (now (froms .exit)) (now (tos .exit)) (now (wides .exit)) (now (sizes .exit)) (now (orders .exit)) ⌝ }
+    ensures { λ x. ⌜ LinkedAt (length (now (starts .entry))) x (now (froms .exit)) (now (tos .exit)) (now (sizes .exit)) (now (head .exit)) (now (next .exit)) ⌝ }
 {
-    let mut id = [0; 512];
     let mut weights = [0; 512];
-    first_row(&mut id);
     row_lists::weigh(costs, &mut weights);
     let mut g = costs.len();
     let mut r: usize = 0;
@@ -344,8 +289,7 @@ fn rise(
             widths,
             k,
             bound,
-            &id,
-            ladder,
+            rows,
             froms,
             tos,
             wides,
@@ -367,8 +311,7 @@ fn rise(
 }
 
 // Builds the hierarchy, by the order of the vertices and the links of their edges: rows 0 to the rounds kept, whose number it answers, with the lists and
-// the order of each.
-// Entries past those rows are left alone.
+// the order of each, and the links of the last. Entries past those rows are left alone.
 pub fn build(
     costs: &[u16],
     starts: &[u16],
@@ -379,7 +322,7 @@ pub fn build(
     order: &[u16; 512],
     head: &mut [u16; 513],
     next: &mut [u16; 1024],
-    ladder: &mut [u16],
+    rows: &mut [u16],
     froms: &mut [u16],
     tos: &mut [u16],
     wides: &mut [u32],
@@ -387,24 +330,25 @@ pub fn build(
     orders: &mut [u16],
 ) -> usize
     requires { ⌜ Buildable (graphOf (now costs) (now starts) (now ends) (now widths)) k ⌝ }
-    requires { ⌜ Room (graphOf (now costs) (now starts) (now ends) (now widths)) (now ladder) (now froms) (now tos) (now wides) (now sizes) (now orders) ⌝ }
+    requires { ⌜ Room (graphOf (now costs) (now starts) (now ends) (now widths)) (now rows) (now froms) (now tos) (now wides) (now sizes) (now orders) ⌝ }
     requires { ⌜ take (length (now costs)) (now order) ≡ orderOf (arcs (identity (length (now costs))) (now starts) (now ends)) (length (now costs)) ⌝ }
-    requires { ⌜ (length (now order) ≡ 512) × Linked (leave (arcs (identity (length (now costs))) (now starts) (now ends))) (length (now starts)) (now head) (now next) ⌝ }
-    ensures { λ x. ⌜ Built (graphOf (now (costs .entry)) (now (starts .entry)) (now (ends .entry)) (now (widths .entry))) k bound (now (ladder .entry)) (now (ladder .exit)) x ⌝ }
-    ensures { λ x. ⌜ Carried (graphOf (now (costs .entry)) (now (starts .entry)) (now (ends .entry)) (now (widths .entry))) (rowAt (graphOf (now (costs .entry)) (now (starts .entry)) (now (ends .entry)) (now (widths .entry))) (now (ladder .exit))) x (now (froms .exit)) (now (tos .exit)) (now (wides .exit)) (now (sizes .exit)) (now (orders .exit)) ⌝ }
+    requires { ⌜ (length (now order) ≡ 512) × Linked (leave (joining (now starts) (now ends))) (length (now starts)) (now head) (now next) ⌝ }
+    ensures { λ x. ⌜ Built (graphOf (now (costs .entry)) (now (starts .entry)) (now (ends .entry)) (now (widths .entry))) k bound (now (rows .entry)) (now (rows .exit)) x ⌝ }
+    ensures { λ x. ⌜ Carried (graphOf (now (costs .entry)) (now (starts .entry)) (now (ends .entry)) (now (widths .entry))) (rowAt (graphOf (now (costs .entry)) (now (starts .entry)) (now (ends .entry)) (now (widths .entry))) (now (rows .exit))) x (now (froms .exit)) (now (tos .exit)) (now (wides .exit)) (now (sizes .exit)) (now (orders .exit)) ⌝ }
+    ensures { λ x. ⌜ LinkedAt (length (now (starts .entry))) x (now (froms .exit)) (now (tos .exit)) (now (sizes .exit)) (now (head .exit)) (now (next .exit)) ⌝ }
 {
     let n = costs.len();
-    first_row(&mut ladder[0..n]);
+    first_row(&mut rows[0..n]);
     row_lists::copy(order, n, orders, 0);
     row_lists::first(starts, ends, widths, froms, tos, wides, sizes);
-    rise(
+    join_rows(
         costs,
         starts,
         ends,
         widths,
         k,
         bound,
-        ladder,
+        rows,
         froms,
         tos,
         wides,

@@ -4,14 +4,17 @@ use mathlib.Core.Path.{_≡_, refl, ap, _∙_}
 use mathlib.Core.List.{List}
 use native.Mathlib.Numerals.{add-one}
 use native.Mathlib.Omega.{arith}
-use lib.ListN.{take, drop}
+use lib.ListN.{length, getD, take, drop}
 use Rattle.folds.specs.Fold.{over, part}
 use Rattle.folds.proofs.Lists.{row-in}
-use Rattle.graph.specs.Graph.{Graph, vertices}
-use Rattle.graph.proofs.Coarse.{rows-held}
+use Rattle.graph.specs.Graph.{Graph, vertices, Proper}
+use Rattle.graph.specs.Rows.{Hierarchy}
+use Rattle.graph.specs.Coarse.{Stored, LinkedAt}
+use Rattle.graph.proofs.Rows.{few-clusters}
+use Rattle.graph.proofs.Coarse.{rows-held, lower-stored, coarse-ended}
 use Rattle.division.specs.Division.{Pick, none, some}
 use Rattle.initial.specs.Initial.{Chosen, found, uncut, orLower, highest, initialOf, chosenOf}
-use Rattle.initial.specs.Answers.{foundOf, tableAfter, Answers, initialAs, chosenAfter, Chooses, Lent, Ordered}
+use Rattle.initial.specs.Answers.{foundOf, tableAfter, Answers, initialAs, chosenAfter, Chooses, Lent, Ordered, Linkable, LinkedBelow, LinkedThere}
 use Rattle.initial.specs.declared.Initial.{Initial}
 use Rattle.initial.specs.declared.Initial.the-variants.{At, Uncut}
 use Rattle.initial.specs.declared.Found.{Found}
@@ -68,8 +71,40 @@ lower-lent {n} {top = top} r l L = record { parts = L .parts; few = omega (arith
 pub lower-ordered : {G : Graph} {rows : ℕ → List ℕ} {top : ℕ} {orders : List ℕ} (r : ℕ) → r ≤ top → Ordered G rows top orders → Ordered G rows r orders
 lower-ordered {G} {top = top} r l O = record { long = rows-held r top (vertices G) _ l (O .long); is = λ q h. O .is q (omega arith) }
 
+-- the lists of its rows, which can be linked
+pub stored-linkable : {G : Graph} {rows : ℕ → List ℕ} {top m n k : ℕ} {froms tos widths sizes lent table : List ℕ} (r : ℕ) → r ≤ top → Proper G → Hierarchy G rows top
+    → Stored G rows top m froms tos widths sizes → Lent n k top lent sizes table → Linkable m r froms tos sizes
+stored-linkable r l P H S L =
+    let T = lower-stored r l S in
+    record {
+      rows = omega (arith, L .few);
+      nine = L .nine;
+      from-room = T .from-room;
+      to-room = T .to-room;
+      few = T .few;
+      ended = λ q h. coarse-ended (T .is q h) (omega (arith, P .few, few-clusters H q (omega arith)));
+    }
+
+-- the links where the loop begins, and where it ends
+pub linked-top : {m top : ℕ} {froms tos sizes head next : List ℕ} → LinkedAt m top froms tos sizes head next → LinkedBelow m (top + 1) froms tos sizes head next
+linked-top {top = top} K = record { below = λ _. let q : top + 1 - 1 ≡ top = omega arith in rw q K }
+
+pub linked-at : {m r c : ℕ} {froms tos sizes head next : List ℕ} → LinkedAt m r froms tos sizes head next → LinkedThere m froms tos sizes head next (At r c)
+linked-at {r = r} K = record { there = λ q d e. let i : q ≡ r = cc in rw i K }
+
+pub linked-uncut : {m : ℕ} {froms tos sizes head next : List ℕ} → LinkedThere m froms tos sizes head next Uncut
+linked-uncut = record { there = λ q d e. let z : _≡_ {A = ℕ} 0 1 = cc in absurd (omega arith) }
+
 pub row-held : (r n : ℕ) {l : ℕ} → suc r * n ≤ l → r * n + n ≤ l
 row-held r n h = omega (arith, row-in r (suc r) n (omega arith))
+
+-- the lists of the row below, in what is lent
+pub linkable-below : {m r : ℕ} {froms tos sizes : List ℕ} → Linkable m r froms tos sizes → (r ≡ 0 → ⊥)
+    → (r - 1 < 9) × ((r - 1) * m + getD sizes (r - 1) 0 ≤ length froms) × ((r - 1) * m + getD sizes (r - 1) 0 ≤ length tos)
+linkable-below {m} {r} K n =
+    let l : r - 1 ≤ r = omega arith in
+    let f = K .few (r - 1) l in
+    (omega (arith, K .rows), omega (arith, row-held (r - 1) m (rows-held (r - 1) r m _ l (K .from-room))), omega (arith, row-held (r - 1) m (rows-held (r - 1) r m _ l (K .to-room))))
 
 -- for a caller: what an answer of `choose` says
 pub chooses-at : {x : Chosen} {old new : List ℕ} {a : Initial} {r c : ℕ} → Chooses x old new a → a ≡ At r c → (t : List ℕ) × (x ≡ found r t c) × (new ≡ over t old)

@@ -8,12 +8,14 @@ use native.Mathlib.Nat.{eq-or-lt-of-le}
 use Rattle.folds.proofs.Cases.{either}
 use Rattle.graph.specs.Graph.{Graph, cutOf, Formed, Proper}
 use Rattle.graph.specs.Rows.{clusters, Hierarchy}
+use Rattle.graph.specs.Table.{Good}
+use Rattle.graph.proofs.Rows.{hierarchy-layer}
 use Rattle.division.specs.Division.{fits, divisions, Pick, none, some, least}
 use Rattle.division.proofs.Picks.{some-none}
 use Rattle.division.proofs.Wins.{Beats, least-holds, least-beats}
-use Rattle.initial.specs.Initial.{placesOf, roomy, Divides, givenBy, tabled, leastParts, initialOf, Chosen, found, uncut, orLower, highest, chosenOf, LeastCut, Good}
+use Rattle.initial.specs.Initial.{placesOf, roomy, Divides, givenBy, tabled, leastParts, initialOf, Chosen, found, uncut, orLower, highest, chosenOf, LeastCut}
 use Rattle.initial.specs.Positions.{Placed, leavingOf}
-use Rattle.initial.proofs.Layers.{layer-of, layer-few, layer-placed}
+use Rattle.initial.proofs.Layers.{layer-few, layer-placed}
 use Rattle.initial.proofs.Places.{place-shared, parts-cut, parts-good}
 
 -- one row: what its pick says
@@ -50,7 +52,7 @@ module _ (G : Graph) (F : Formed G) (k bound : ℕ) (row : List ℕ) (P : Placed
 module _ (G : Graph) (proper : Proper G) (k bound : ℕ) (rows : ℕ → List ℕ) (kept : ℕ) (H : Hierarchy G rows kept) where
   -- the positions of a kept row
   row-placed : (r : ℕ) → r ≤ kept → Placed G (clusters (rows r)) (placesOf G (rows r))
-  row-placed r l = layer-placed proper (layer-of H r l)
+  row-placed r l = layer-placed proper (hierarchy-layer H r l)
 
   -- here and below, or only below
   choose : (r : ℕ) (p : Pick (List ℕ)) (lower : Chosen) (q : ℕ) (t : List ℕ) (c : ℕ) → orLower r p lower ≡ found q t c → ((p ≡ some c t) × (q ≡ r)) ⊎ ((p ≡ none) × (lower ≡ found q t c))
@@ -137,5 +139,5 @@ module _ {G : Graph} {rows : ℕ → List ℕ} {top : ℕ} (proper : Proper G) (
   initial-good {r} e =
       let L = initial-least e in
       rw (L .gives)
-      (parts-good G (proper .formed) (clusters (rows r)) (placesOf G (rows r)) (layer-placed proper (layer-of H r (L .kept))) k bound (rows r) (L .starts)
-      (place-shared G (rows r) (proper .formed) (H .row r (L .kept)) (layer-few proper (layer-of H r (L .kept))) (H .acyclic r (L .kept))) (L .divides))
+      (parts-good G (proper .formed) (clusters (rows r)) (placesOf G (rows r)) (layer-placed proper (hierarchy-layer H r (L .kept))) k bound (rows r) (L .starts)
+      (place-shared G (rows r) (proper .formed) (H .row r (L .kept)) (layer-few proper (hierarchy-layer H r (L .kept))) (H .acyclic r (L .kept))) (L .divides))

@@ -1,10 +1,7 @@
 pub mod Places
 pub mod Claims
-pub mod Gathers
-pub mod Flows
 pub mod Arranges
 pub mod Solves
 pub mod Listed
 pub mod Layers
 pub mod Chooses
-pub mod Follows

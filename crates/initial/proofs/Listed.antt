@@ -14,7 +14,8 @@ use Rattle.graph.specs.Links.{Ends}
 use Rattle.graph.specs.Coarse.{Coarse}
 use Rattle.graph.proofs.Coarse.{coarse-sum, edge-listed}
 use Rattle.division.proofs.Intervals.{leaving}
-use Rattle.initial.specs.Positions.{Placed, Positioned, leavingBy, leavingOf}
+use Rattle.division_scan.specs.Scan.{Positioned, leavingBy}
+use Rattle.initial.specs.Positions.{Placed, leavingOf}
 
 -- whether an edge from cluster a to cluster b leaves the positions y to x - 1
 crosses : List ℕ → ℕ → ℕ → ℕ → ℕ → Bool
@@ -51,6 +52,7 @@ module _ {G : Graph} {row places from to width : List ℕ} {g : ℕ} (at : List 
   pub listed-edges : Positioned at from to width g
   listed-edges =
       record {
+        whole = tall;
         joins = record { out = ends-in from refl (C .from-in); into = ends-in to (C .same-ends) (C .to-in); same = C .same-ends };
         same = C .same-widths;
         narrow = rw (C .same-widths) (C .narrow);

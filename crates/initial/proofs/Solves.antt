@@ -8,7 +8,7 @@ use lib.ListN.{length, getD, take, replicate, length-replicate, getD-replicate}
 use Rattle.folds.specs.Fold.{over}
 use Rattle.folds.proofs.Slices.{take-over, length-over}
 use Rattle.graph.specs.Graph.{Graph, vertices, costIn}
-use Rattle.counts.specs.Totals.{Totals}
+use Rattle.graph.specs.Totals.{Totals}
 use Rattle.division.specs.Division.{none, some, between}
 use Rattle.division.specs.Table.{best, noCut, span, within, Table, Blank, startsBy}
 use Rattle.division.specs.Fewest.{After}
@@ -18,8 +18,9 @@ use Rattle.division.proofs.Fills.{within-monotone, too-few}
 use Rattle.division.proofs.Spans.{span-between, between-small}
 use Rattle.division.proofs.Tables.{low-none, length-starts}
 use Rattle.initial.specs.Initial.{roomy}
-use Rattle.initial.specs.Positions.{Positioned, leavingBy, Costs, Tabled}
-use Rattle.initial.proofs.Flows.{leaving-small}
+use Rattle.division_scan.specs.Scan.{Positioned, leavingBy, Costs, Tabled}
+use Rattle.division_scan.proofs.Flows.{leaving-small}
+use Rattle.initial.proofs.Places.{run-cost}
 
 -- the table, read at position 0
 module _ {places starts ends widths cost : List ℕ} {bound g : ℕ} {away cuts : List ℕ} (P : Positioned places starts ends widths g) (n : ℕ) (ln : n < 16)
@@ -61,7 +62,7 @@ module _ (G : Graph) {g : ℕ} {places cost : List ℕ} (few : vertices G ≤ 51
 
   tests : (bound y x : ℕ) → y ≤ x → x ≤ g → roomy G bound places y x ≡ within cost bound y x
   unfolding roomy within
-  tests bound y x l h = rw (cost-between y x l h)
+  tests bound y x l h = rw (run-cost G places y x, cost-between y x l h)
 
   module _ (bound : ℕ) (out : ℕ → ℕ → ℕ) (n : ℕ) where
     pub cost-best : best g (roomy G bound places) out n 0 ≡ best g (within cost bound) out n 0

@@ -1,11 +1,13 @@
 -- What the code answers, by the definitions.
-use Prim.Native.Nat.{ℕ, suc, _*_, _<_, _≤_}
+use Prim.Native.Nat.{ℕ, suc, _*_, _-_, _<_, _≤_}
 use mathlib.Core.Path.{_≡_}
 use mathlib.Core.List.{List}
-use lib.ListN.{length, take}
-use Rattle.folds.specs.Fold.{over}
+use lib.ListN.{length, getD, take}
+use Rattle.folds.specs.Fold.{over, part}
 use Rattle.graph.specs.Graph.{Graph, vertices, seen}
 use Rattle.graph.specs.Rows.{clusters, rowsIn}
+use Rattle.graph.specs.Links.{Ended}
+use Rattle.graph.specs.Coarse.{LinkedAt}
 use Rattle.topology.specs.Order.{orderOf}
 use Rattle.division.specs.Division.{Pick, none, some}
 use Rattle.initial.specs.Initial.{Chosen, found, uncut}
@@ -55,3 +57,20 @@ OrderOf G row order = take (clusters row) order ≡ orderOf (seen G row) (cluste
 pub record Ordered (G : Graph) (rows : ℕ → List ℕ) (top : ℕ) (orders : List ℕ) : Type 0 where
   pub long : suc top * vertices G ≤ length orders
   pub is : (r : ℕ) → r ≤ top → OrderOf G (rows r) (rowsIn orders (vertices G) r)
+
+-- the lists of the rows 0 to top lie in what is lent, and name clusters below 512
+pub record Linkable (m top : ℕ) (froms tos sizes : List ℕ) : Type 0 where
+  pub rows : top < 9
+  pub nine : length sizes ≡ 9
+  pub from-room : suc top * m ≤ length froms
+  pub to-room : suc top * m ≤ length tos
+  pub few : (r : ℕ) → r ≤ top → getD sizes r 0 ≤ m
+  pub ended : (r : ℕ) → r ≤ top → Ended (part froms (r * m) (getD sizes r 0)) (part tos (r * m) (getD sizes r 0))
+
+-- the links are those of the row below row r, if there is one
+pub record LinkedBelow (m r : ℕ) (froms tos sizes head next : List ℕ) : Type 0 where
+  pub below : 0 < r → LinkedAt m (r - 1) froms tos sizes head next
+
+-- the links are those of the row that was cut
+pub record LinkedThere (m : ℕ) (froms tos sizes head next : List ℕ) (x : Initial) : Type 0 where
+  pub there : (r c : ℕ) → x ≡ At r c → LinkedAt m r froms tos sizes head next

@@ -1,15 +1,16 @@
 -- The initial partition (document 01: first cut): the least division of a row's topological order, on the highest row that has one.
 use Prim.Native.Nat.{ℕ, zero, suc, _<_, _≤_}
 use mathlib.Core.Path.{_≡_}
-use mathlib.Core.Bool.{Bool}
+use mathlib.Core.Bool.{Bool, _&&_}
 use mathlib.Core.List.{List}
-use lib.Dec.{leb}
+use lib.Dec.{leb, ltb}
 use lib.ListN.{length, getD}
 use Rattle.folds.specs.Fold.{listTo}
-use Rattle.graph.specs.Graph.{Graph, vertices, edges, via, Arcs, seen, cutOf, partCost}
+use Rattle.graph.specs.Graph.{Graph, Arcs, seen, cutOf}
 use Rattle.graph.specs.Rows.{clusters}
+use Rattle.graph.specs.Table.{sizeOf}
 use Rattle.topology.specs.Order.{orderOf, placeIn}
-use Rattle.division.specs.Division.{fits, Feasible, intervalOf, between, divisions, NotAfter, Pick, none, some, least}
+use Rattle.division.specs.Division.{fits, Feasible, intervalOf, divisions, NotAfter, Pick, none, some, least}
 
 -- the position of each vertex: the place of its cluster in the topological order (document 01: play order) of the row's clusters
 unfoldable pub placesIn : Arcs → ℕ → List ℕ → List ℕ
@@ -18,9 +19,13 @@ placesIn A g row = let order = orderOf A g in listTo (length row) (λ v. placeIn
 abbrev pub placesOf : Graph → List ℕ → List ℕ
 placesOf G row = placesIn (seen G row) (clusters row) row
 
--- THE TEST of an interval, positions y to x - 1 (document 01: a run within the limit): what lies there costs at most the bound
+-- the size of what lies at the positions y to x - 1 (document 01: a run)
+unfoldable pub runSize : Graph → List ℕ → ℕ → ℕ → ℕ
+runSize G places y x = sizeOf G (λ v. leb y (getD places v 0) && ltb (getD places v 0) x)
+
+-- THE TEST of an interval, positions y to x - 1 (document 01: a run within the limit): its size is at most the bound
 unfoldable pub roomy : Graph → ℕ → List ℕ → ℕ → ℕ → Bool
-roomy G bound places y x = leb (between (vertices G) (λ v. getD places v 0) (λ v. getD (G .costs) v 0) y x) bound
+roomy G bound places y x = leb (runSize G places y x) bound
 
 -- the table that a division gives: the part of a vertex is the interval of its position
 unfoldable pub partsOf : List ℕ → List ℕ → List ℕ
@@ -75,15 +80,3 @@ pub record LeastCut (G : Graph) (k bound : ℕ) (rows : ℕ → List ℕ) (top r
   pub first : (e : List ℕ) → Divides G k bound (rows r) e → cutOf G (givenBy G (rows r) e) ≡ c → NotAfter starts e
   -- higher kept rows have none
   pub higher : (q : ℕ) → r < q → q ≤ top → (e : List ℕ) → Divides G k bound (rows q) e → ⊥
-
--- what holds of a table over the clusters of a row
-pub record Good (G : Graph) (k bound : ℕ) (row table : List ℕ) : Type 0 where
-  pub whole : length table ≡ vertices G
-  pub below : (v : ℕ) → v < vertices G → getD table v 0 < k
-  -- vertices of one cluster share a part
-  pub shared : (a b : ℕ) → a < vertices G → b < vertices G → getD row a 0 ≡ getD row b 0 → getD table a 0 ≡ getD table b 0
-  -- no edge goes from a later part to an earlier one
-  pub forward : (j : ℕ) → j < edges G → via table (G .starts) j ≤ via table (G .ends) j
-  -- some vertex lies in every part, and each is within the bound
-  pub filled : (u : ℕ) → u < k → (v : ℕ) × (v < vertices G) × (getD table v 0 ≡ u)
-  pub within : (u : ℕ) → u < k → partCost (G .costs) table u ≤ bound

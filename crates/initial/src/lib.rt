@@ -3,16 +3,17 @@ ghost use mathlib.Core.Path.{_≡_};
 ghost use Prim.Native.Nat.{_<_, _≤_};
 ghost use lib.ListN.{length, take};
 ghost use Rattle.folds.specs.Fold.{over};
-ghost use Rattle.graph.specs.Graph.{via, through, graphOf, Proper};
-ghost use Rattle.graph.specs.Rows.{clusters, rowsIn, Hierarchy};
-ghost use Rattle.graph.specs.Coarse.{Narrow, Coarse, Stored};
-ghost use Rattle.graph.specs.Links.{Linked, Joins};
-ghost use Rattle.counts.specs.Totals.{Keyed};
-ghost use Rattle.division.specs.Table.{best, within, Table, Blank, nextBy, startsBy};
+ghost use Rattle.graph.specs.Graph.{through, joining, graphOf, Proper};
+ghost use Rattle.graph.specs.Rows.{clusters, rowsIn, Layer, Hierarchy};
+ghost use Rattle.graph.specs.Coarse.{Coarse, Stored, LinkedAt};
+ghost use Rattle.graph.specs.Links.{Linked, leave};
+ghost use Rattle.graph.specs.Totals.{Keyed};
+ghost use Rattle.division.specs.Table.{best, within, Table, Blank};
 ghost use Rattle.division.specs.Fewest.{Before, After};
 ghost use Rattle.initial.specs.Initial.{roomy, partsOf, tabled, initialOf, chosenOf};
-ghost use Rattle.initial.specs.Answers.{Answers, Chooses, Lent, OrderOf, Ordered};
-ghost use Rattle.initial.specs.Positions.{Spots, Room, Gathered, Positioned, leavingBy, Costs, Tabled, Once, Inverse, Layer};
+ghost use Rattle.initial.specs.Answers.{Answers, Chooses, Lent, OrderOf, Ordered, Linkable, LinkedBelow, LinkedThere};
+ghost use Rattle.division_scan.specs.Scan.{Positioned, LinkedBy, leavingBy, Costs};
+ghost use Rattle.initial.specs.Positions.{Spots, Once, Inverse};
 
 // The least cut, or there is no division.
 pub enum Found {
@@ -24,159 +25,6 @@ pub enum Found {
 pub enum Initial {
     At(usize, u32),
     Uncut,
-}
-
-// Adds the edges that start at y to what comes into the positions where they end, and answers their width.
-fn gather(
-    places: &[u16],
-    starts: &[u16],
-    ends: &[u16],
-    widths: &[u32],
-    head: &[u16; 513],
-    link: &[u16; 1024],
-    y: usize,
-    into: &mut [u32; 512],
-) -> u32
-    requires { ⌜ Joins (now places) (now starts) (now ends) ⌝ }
-    requires { ⌜ Linked (via (now places) (now starts)) (length (now starts)) (now head) (now link) ⌝ }
-    requires { ⌜ (y < 512) × (length (now widths) ≡ length (now starts)) × Narrow (now widths) ⌝ }
-    requires { ⌜ Room (now into) ⌝ }
-    ensures { λ r. ⌜ Gathered (now (places .entry)) (now (starts .entry)) (now (ends .entry)) (now (widths .entry)) y (length (now (starts .entry))) (now (into .entry)) (now (into .exit)) r ⌝ }
-{
-    let m = starts.len();
-    let mut sum: u32 = 0;
-    let mut j = folds::wide(head[y]);
-    while j < m {
-        let x = graph::cluster(places, ends, j);
-        let w = widths[j];
-        into[x] = into[x] + w;
-        sum += w;
-        j = folds::wide(link[j]);
-    }
-    sum
-}
-
-// The start that follows y, where j follow it; or g.
-fn next_start(
-    places: &[u16],
-    starts: &[u16],
-    ends: &[u16],
-    widths: &[u32],
-    head: &[u16; 513],
-    link: &[u16; 1024],
-    cut: &[u32],
-    g: usize,
-    y: usize,
-    j: usize,
-) -> usize
-    requires { ⌜ Positioned (now places) (now starts) (now ends) (now widths) g ⌝ }
-    requires { ⌜ Linked (via (now places) (now starts)) (length (now starts)) (now head) (now link) ⌝ }
-    requires { ⌜ Table g (now cut) ⌝ }
-    requires { ⌜ (y ≤ g) × (g ≤ 512) × (j < 15) ⌝ }
-    ensures { λ r. ⌜ r ≡ nextBy g (leavingBy (now (places .entry)) (now (starts .entry)) (now (ends .entry)) (now (widths .entry))) (now (cut .entry)) j y ⌝ }
-{
-    let goal = cut[y * 17 + (j + 1)];
-    let mut into = [0u32; 512];
-    let mut out: u32 = 0;
-    let mut x = y;
-    while x + 1 < g {
-        let w = gather(places, starts, ends, widths, head, link, x, &mut into);
-        out = out + w - into[x];
-        x += 1;
-        if out + cut[x * 17 + j] == goal {
-            return x;
-        }
-    }
-    g
-}
-
-// Writes the n starts that follow position 0.
-fn follow(
-    places: &[u16],
-    starts: &[u16],
-    ends: &[u16],
-    widths: &[u32],
-    head: &[u16; 513],
-    link: &[u16; 1024],
-    cut: &[u32],
-    g: usize,
-    n: usize,
-    first: &mut [u16; 16],
-)
-    requires { ⌜ Positioned (now places) (now starts) (now ends) (now widths) g ⌝ }
-    requires { ⌜ Linked (via (now places) (now starts)) (length (now starts)) (now head) (now link) ⌝ }
-    requires { ⌜ Table g (now cut) ⌝ }
-    requires { ⌜ (g ≤ 512) × (n < 16) × (length (now first) ≡ 16) ⌝ }
-    ensures { λ _. ⌜ now (first .exit) ≡ over (startsBy g (leavingBy (now (places .entry)) (now (starts .entry)) (now (ends .entry)) (now (widths .entry))) (now (cut .entry)) n 0) (now (first .entry)) ⌝ }
-{
-    let mut y: usize = 0;
-    let mut i: usize = 0;
-    while i < n {
-        y = next_start(
-            places,
-            starts,
-            ends,
-            widths,
-            head,
-            link,
-            cut,
-            g,
-            y,
-            n - (i + 1),
-        );
-        first[i] = y as u16;
-        i += 1;
-    }
-}
-
-// Fills the table of the least cuts that a division with n starts can have, from the last position down.
-fn tabulate(
-    starts: &[u16],
-    ends: &[u16],
-    widths: &[u32],
-    places: &[u16],
-    cost: &[u32; 512],
-    before: &[u16; 512],
-    after: &[u16; 512],
-    head: &[u16; 513],
-    link: &[u16; 1024],
-    bound: u32,
-    g: usize,
-    n: usize,
-    away: &mut [u32; 512],
-    cut: &mut [u32],
-)
-    requires { ⌜ Positioned (now places) (now starts) (now ends) (now widths) g ⌝ }
-    requires { ⌜ Linked (via (now places) (now starts)) (length (now starts)) (now head) (now link) ⌝ }
-    requires { ⌜ Costs (now cost) g ⌝ }
-    requires { ⌜ Before g (within (now cost) bound) (now before) ⌝ }
-    requires { ⌜ After g (within (now cost) bound) 0 (now after) ⌝ }
-    requires { ⌜ (g ≤ 512) × (n ≤ 16) × (length (now away) ≡ 512) ⌝ }
-    requires { ⌜ Table g (now cut) ⌝ }
-    requires { ⌜ Blank g (now cut) ⌝ }
-    ensures { λ _. ⌜ Tabled n (now (places .entry)) (now (starts .entry)) (now (ends .entry)) (now (widths .entry)) (now (cost .entry)) bound g 0 (now (away .exit)) (now (cut .exit)) ⌝ }
-{
-    let mut into = [0u32; 512];
-    let mut rest: u32 = 0;
-    let mut y = g;
-    while y > 0 {
-        y -= 1;
-        away[y] = gather(places, starts, ends, widths, head, link, y, &mut into);
-        rest += cost[y];
-        division::sweep(
-            cost,
-            away,
-            &into,
-            bound,
-            g,
-            y,
-            n,
-            folds::wide(before[y]),
-            folds::wide(after[y]),
-            rest,
-            cut,
-        );
-    }
 }
 
 // The place of each cluster in an order of g.
@@ -232,6 +80,9 @@ fn search_in(
     cost: &[u32; 512],
     before: &[u16; 512],
     after: &[u16; 512],
+    order: &[u16],
+    head: &[u16; 513],
+    next: &[u16; 1024],
     bound: u32,
     g: usize,
     n: usize,
@@ -239,6 +90,7 @@ fn search_in(
     cut: &mut [u32],
 ) -> Found
     requires { ⌜ Positioned (now at) (now starts) (now ends) (now widths) g ⌝ }
+    requires { ⌜ LinkedBy (now order) (now at) (now starts) (now head) (now next) ⌝ }
     requires { ⌜ Costs (now cost) g ⌝ }
     requires { ⌜ Before g (within (now cost) bound) (now before) ⌝ }
     requires { ⌜ After g (within (now cost) bound) 0 (now after) ⌝ }
@@ -247,11 +99,8 @@ fn search_in(
     requires { ⌜ (0 < g) × (g ≤ 512) × (n < 16) × (length (now places) ≤ length (now table)) ⌝ }
     ensures { λ r. ⌜ Answers (tabled (now (places .entry)) (best g (within (now (cost .entry)) bound) (leavingBy (now (at .entry)) (now (starts .entry)) (now (ends .entry)) (now (widths .entry))) n 0)) (now (table .entry)) (now (table .exit)) r ⌝ }
 {
-    let mut head = [0u16; 513];
-    let mut link = [0u16; 1024];
     let mut away = [0u32; 512];
-    graph::fill(at, starts, &mut head, &mut link);
-    tabulate(
+    division_scan::tabulate(
         starts,
         ends,
         widths,
@@ -259,8 +108,9 @@ fn search_in(
         cost,
         before,
         after,
-        &head,
-        &link,
+        order,
+        head,
+        next,
         bound,
         g,
         n,
@@ -272,13 +122,14 @@ fn search_in(
         return Found::Nothing;
     }
     let mut first = [0u16; 16];
-    follow(
+    division_scan::follow(
         at,
         starts,
         ends,
         widths,
-        &head,
-        &link,
+        order,
+        head,
+        next,
         cut,
         g,
         n,
@@ -298,12 +149,16 @@ fn search(
     cost: &[u32; 512],
     before: &[u16; 512],
     after: &[u16; 512],
+    order: &[u16],
+    head: &[u16; 513],
+    next: &[u16; 1024],
     bound: u32,
     g: usize,
     n: usize,
     table: &mut [u16],
 ) -> Found
     requires { ⌜ Positioned (now at) (now starts) (now ends) (now widths) g ⌝ }
+    requires { ⌜ LinkedBy (now order) (now at) (now starts) (now head) (now next) ⌝ }
     requires { ⌜ Costs (now cost) g ⌝ }
     requires { ⌜ Before g (within (now cost) bound) (now before) ⌝ }
     requires { ⌜ After g (within (now cost) bound) 0 (now after) ⌝ }
@@ -321,6 +176,9 @@ fn search(
             cost,
             before,
             after,
+            order,
+            head,
+            next,
             bound,
             g,
             n,
@@ -338,6 +196,9 @@ fn search(
         cost,
         before,
         after,
+        order,
+        head,
+        next,
         bound,
         g,
         n,
@@ -355,6 +216,9 @@ fn solve(
     width: &[u32],
     at: &[u16],
     places: &[u16],
+    order: &[u16],
+    head: &[u16; 513],
+    next: &[u16; 1024],
     bound: u32,
     g: usize,
     n: usize,
@@ -362,13 +226,14 @@ fn solve(
 ) -> Found
     requires { ⌜ Keyed (now places) (now costs) 512 ⌝ }
     requires { ⌜ Positioned (now at) (now from) (now to) (now width) g ⌝ }
+    requires { ⌜ LinkedBy (now order) (now at) (now from) (now head) (now next) ⌝ }
     requires { ⌜ (0 < g) × (g ≤ 512) × (n < 16) × (length (now places) ≤ length (now table)) ⌝ }
     ensures { λ r. ⌜ Answers (tabled (now (places .entry)) (best g (roomy (graphOf (now (costs .entry)) (now (from .entry)) (now (to .entry)) (now (width .entry))) bound (now (places .entry))) (leavingBy (now (at .entry)) (now (from .entry)) (now (to .entry)) (now (width .entry))) n 0)) (now (table .entry)) (now (table .exit)) r ⌝ }
 {
     let mut cost = [0u32; 512];
     let mut before = [0u16; 512];
     let mut after = [0u16; 512];
-    counts::sum_costs(places, costs, &mut cost);
+    graph::sum_costs(places, costs, &mut cost);
     division::fewest_after(&cost, bound, g, &mut after);
     if n + 1 < folds::wide(after[0]) {
         return Found::Nothing;
@@ -383,6 +248,9 @@ fn solve(
         &cost,
         &before,
         &after,
+        order,
+        head,
+        next,
         bound,
         g,
         n,
@@ -402,6 +270,8 @@ fn divide(
     from: &[u16],
     to: &[u16],
     width: &[u32],
+    head: &[u16; 513],
+    next: &[u16; 1024],
     k: usize,
     bound: u32,
     table: &mut [u16],
@@ -410,11 +280,12 @@ fn divide(
     requires { ⌜ Layer (graphOf (now costs) (now starts) (now ends) (now widths)) (now row) ⌝ }
     requires { ⌜ OrderOf (graphOf (now costs) (now starts) (now ends) (now widths)) (now row) (now order) ⌝ }
     requires { ⌜ Coarse (graphOf (now costs) (now starts) (now ends) (now widths)) (now row) (clusters (now row)) (now from) (now to) (now width) ⌝ }
+    requires { ⌜ Linked (leave (joining (now from) (now to))) (length (now from)) (now head) (now next) ⌝ }
     requires { ⌜ (0 < k) × (k ≤ 16) × (length (now costs) ≤ length (now table)) ⌝ }
     ensures { λ r. ⌜ Answers (initialOf (graphOf (now (costs .entry)) (now (starts .entry)) (now (ends .entry)) (now (widths .entry))) k bound (now (row .entry))) (now (table .entry)) (now (table .exit)) r ⌝ }
 {
     let n = costs.len();
-    let g = counts::cluster_count(row);
+    let g = graph::cluster_count(row);
     if g < k {
         return Found::Nothing;
     }
@@ -429,6 +300,9 @@ fn divide(
         width,
         &at[..g],
         &places[..n],
+        order,
+        head,
+        next,
         bound,
         g,
         k - 1,
@@ -448,6 +322,8 @@ fn divide_at(
     to: &[u16],
     width: &[u32],
     sizes: &[u16; 9],
+    head: &[u16; 513],
+    next: &[u16; 1024],
     r: usize,
     k: usize,
     bound: u32,
@@ -457,6 +333,7 @@ fn divide_at(
     requires { ⌜ Layer (graphOf (now costs) (now starts) (now ends) (now widths)) (rowsIn (now rows) (length (now costs)) r) ⌝ }
     requires { ⌜ Ordered (graphOf (now costs) (now starts) (now ends) (now widths)) (rowsIn (now rows) (length (now costs))) r (now orders) ⌝ }
     requires { ⌜ Stored (graphOf (now costs) (now starts) (now ends) (now widths)) (rowsIn (now rows) (length (now costs))) r (length (now starts)) (now from) (now to) (now width) (now sizes) ⌝ }
+    requires { ⌜ LinkedAt (length (now starts)) r (now from) (now to) (now sizes) (now head) (now next) ⌝ }
     requires { ⌜ Lent (length (now costs)) k r (now rows) (now sizes) (now table) ⌝ }
     ensures { λ f. ⌜ Answers (initialOf (graphOf (now (costs .entry)) (now (starts .entry)) (now (ends .entry)) (now (widths .entry))) k bound (rowsIn (now (rows .entry)) (length (now (costs .entry))) r)) (now (table .entry)) (now (table .exit)) f ⌝ }
 {
@@ -475,14 +352,39 @@ fn divide_at(
         &from[b..e],
         &to[b..e],
         &width[b..e],
+        head,
+        next,
         k,
         bound,
         table,
     )
 }
 
+// The links of the row below row r, if there is one.
+fn link_below(
+    from: &[u16],
+    to: &[u16],
+    sizes: &[u16; 9],
+    m: usize,
+    r: usize,
+    head: &mut [u16; 513],
+    next: &mut [u16; 1024],
+)
+    requires { ⌜ Linkable m r (now from) (now to) (now sizes) ⌝ }
+    requires { ⌜ length (now next) ≡ 1024 ⌝ }
+    ensures { λ _. ⌜ LinkedBelow m r (now (from .entry)) (now (to .entry)) (now (sizes .entry)) (now (head .exit)) (now (next .exit)) ⌝ }
+{
+    if r == 0 {
+        return;
+    }
+    let b = (r - 1) * m;
+    let e = b + folds::wide(sizes[r - 1]);
+    graph::link_leaving(&from[b..e], &to[b..e], head, next);
+}
+
 // The initial partition: of the rows 0 to top, from the highest down, the first that has a division.
 // Of each row's entries in `orders` the first are its clusters in topological order, and the lists of its edges lie from r × m on.
+// The links are those of row top, and afterwards those of the row that was cut.
 pub fn choose(
     costs: &[u16],
     starts: &[u16],
@@ -494,6 +396,8 @@ pub fn choose(
     to: &[u16],
     width: &[u32],
     sizes: &[u16; 9],
+    head: &mut [u16; 513],
+    next: &mut [u16; 1024],
     top: usize,
     k: usize,
     bound: u32,
@@ -503,8 +407,10 @@ pub fn choose(
     requires { ⌜ Hierarchy (graphOf (now costs) (now starts) (now ends) (now widths)) (rowsIn (now rows) (length (now costs))) top ⌝ }
     requires { ⌜ Ordered (graphOf (now costs) (now starts) (now ends) (now widths)) (rowsIn (now rows) (length (now costs))) top (now orders) ⌝ }
     requires { ⌜ Stored (graphOf (now costs) (now starts) (now ends) (now widths)) (rowsIn (now rows) (length (now costs))) top (length (now starts)) (now from) (now to) (now width) (now sizes) ⌝ }
+    requires { ⌜ LinkedAt (length (now starts)) top (now from) (now to) (now sizes) (now head) (now next) ⌝ }
     requires { ⌜ Lent (length (now costs)) k top (now rows) (now sizes) (now table) ⌝ }
     ensures { λ r. ⌜ Chooses (chosenOf (graphOf (now (costs .entry)) (now (starts .entry)) (now (ends .entry)) (now (widths .entry))) k bound (rowsIn (now (rows .entry)) (length (now (costs .entry)))) top) (now (table .entry)) (now (table .exit)) r ⌝ }
+    ensures { λ r. ⌜ LinkedThere (length (now (starts .entry))) (now (from .entry)) (now (to .entry)) (now (sizes .entry)) (now (head .exit)) (now (next .exit)) r ⌝ }
 {
     let mut r = top + 1;
     while r > 0 {
@@ -520,6 +426,8 @@ pub fn choose(
             to,
             width,
             sizes,
+            head,
+            next,
             r,
             k,
             bound,
@@ -528,6 +436,7 @@ pub fn choose(
         if let Found::Cut(c) = f {
             return Initial::At(r, c);
         }
+        link_below(from, to, sizes, starts.len(), r, head, next);
     }
     Initial::Uncut
 }

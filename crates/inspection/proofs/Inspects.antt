@@ -9,21 +9,19 @@ use lib.Dec.{leb}
 use lib.ListN.{length}
 use lib.Seq.{length-take-le}
 use borrow.Author.Tests.{leb-true, le-leb}
-use Rattle.folds.specs.Fold.{over}
 use Rattle.folds.proofs.Cases.{both}
 use Rattle.graph.specs.Graph.{Graph, vertices, seen, cutOf, Proper}
-use Rattle.graph.specs.Links.{Joins}
-use Rattle.topology.specs.Order.{orderOf}
-use Rattle.validity.specs.Cause.{refusal, answered, told}
+use Rattle.validity.specs.Cause.{refusal, told}
 use Rattle.validity.specs.Check.{checked, Valid}
 use Rattle.validity.specs.Sound.{Sound}
 use Rattle.validity.specs.declared.Cause.{Cause}
 use Rattle.validity.specs.declared.Verdict.{Verdict}
 use Rattle.validity.specs.declared.Verdict.the-variants.{Passed, Refused}
 use Rattle.validity.proofs.Passed.{number-passed, passed-valid, valid-sound}
-use Rattle.inspection.specs.Table.{tableOf, Fine, Tabled}
-use Rattle.inspection.specs.Inspect.{partsOf, verdictOf, inspectOf, orderAfter}
-use Rattle.inspection.proofs.Tables.{passed-fine, fine-passed, table-joins}
+use Rattle.inspection.specs.Table.{tableOf, Fine}
+use Rattle.inspection.specs.Inspect.{answerOf, partsOf, verdictOf, inspectOf, orderAfter, Tabled, Judged}
+use Rattle.inspection.specs.declared.Inspected.{Inspected}
+use Rattle.inspection.proofs.Tables.{passed-fine, fine-passed}
 
 -- what the calls below answered: v of checks 1 to 8
 module _ (G : Graph) (k bound : ℕ) (table order : List ℕ) (room : Bool) (v : Verdict)
@@ -33,45 +31,27 @@ module _ (G : Graph) (k bound : ℕ) (table order : List ℕ) (room : Bool) (v :
   unfolding inspectOf orderAfter verdictOf
   refused-first e = rw (← er, ← ev, e) (refl, refl)
 
-  pub refused-table : {cause : Cause} {place : ℕ} {w : Verdict} → v ≡ Passed → w ≡ tableOf (G .costs) (G .starts) (G .ends) k bound (partsOf G table) → w ≡ Refused cause place
-      → (refusal cause place ≡ inspectOf G k bound table order) × (order ≡ orderAfter G k bound table order)
+  pub judged-all : {r : Inspected} {order′ : List ℕ} → v ≡ Passed → Judged (tableOf G k bound (partsOf G table)) (seen G (partsOf G table)) (G .widths) k order order′ r
+      → (answerOf r ≡ inspectOf G k bound table order) × (order′ ≡ orderAfter G k bound table order)
   unfolding inspectOf orderAfter verdictOf
-  refused-table e ew h = rw (← er, ← ev, e, ← ew, h) (refl, refl)
-
-  pub passed-both : {w : Verdict} → v ≡ Passed → w ≡ tableOf (G .costs) (G .starts) (G .ends) k bound (partsOf G table) → w ≡ Passed
-      → (answered (cutOf G (partsOf G table) ∷ []) ≡ inspectOf G k bound table order) × (over (orderOf (seen G (partsOf G table)) k) order ≡ orderAfter G k bound table order)
-  unfolding inspectOf orderAfter verdictOf
-  passed-both e ew h = rw (← er, ← ev, e, ← ew, h) (refl, refl)
+  judged-all e J = rw (← er, ← ev, e) (J .answer, J .after)
 
   -- where they passed, the rest is as the checks after them ask
   module _ (passed : v ≡ Passed) where
     valid : (Valid G k bound) × (room ≡ true)
     valid = passed-valid 512 G k bound room (omega arith) (sym ev ∙ passed)
 
-    pub sound : Sound G k bound
+    sound : Sound G k bound
     sound = valid-sound G k bound (valid .0)
 
-    pub rooms : (vertices G ≤ length table) × (k ≤ length order)
+    rooms : (vertices G ≤ length table) × (k ≤ length order)
     rooms =
         let (a, b) = both (leb (vertices G) (length table)) (leb k (length order)) (sym er ∙ valid .1) in
         (leb-true _ _ a, leb-true _ _ b)
 
-    pub tabled : Tabled (G .costs) (G .starts) (G .ends) (partsOf G table) k
+    pub tabled : Tabled G k (partsOf G table) order
     unfolding partsOf
-    tabled =
-        record {
-          whole = length-take-le (vertices G) table (rooms .0);
-          few = sound .proper .few;
-          many = sound .proper .many;
-          same = sound .proper .formed .same-ends;
-          start-in = sound .proper .formed .start-in;
-          end-in = sound .proper .formed .end-in;
-          costly = sound .proper .costly;
-          parts-few = sound .few;
-        }
-
-    pub joins : tableOf (G .costs) (G .starts) (G .ends) k bound (partsOf G table) ≡ Passed → Joins (partsOf G table) (G .starts) (G .ends)
-    joins e = table-joins tabled (passed-fine G k bound (partsOf G table) (sound .proper) e .named)
+    tabled = record { proper = sound .proper; whole = length-take-le (vertices G) table (rooms .0); few = sound .few; room = rooms .1 }
 
 -- DEMAND 2: for a valid graph, inspection passes a table (with an entry for each vertex, and room for the start order) exactly if it is fine
 pub inspection-exactly : (G : Graph) (k bound : ℕ) (table order : List ℕ) → Valid G k bound → vertices G ≤ length table → k ≤ length order

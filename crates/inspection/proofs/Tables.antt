@@ -11,8 +11,13 @@ use Rattle.folds.specs.Fold.{when, sumTo, anyTo, firstTo}
 use Rattle.folds.proofs.Cases.{by, not-no, not-yes, same-test}
 use Rattle.folds.proofs.Sums.{sumTo-none, sumTo-member}
 use Rattle.folds.proofs.Searches.{firstTo-le, firstTo-none, firstTo-all, firstTo-ext, any-i, any-e, any-none}
-use Rattle.graph.specs.Graph.{Graph, vertices, arcs, seen, Inside, costIn, partCost, Proper}
-use Rattle.graph.specs.Links.{Summed, Joins}
+use Rattle.graph.specs.Graph.{Graph, vertices, seen, Inside, costIn, partCost, Proper}
+use Rattle.graph.specs.Links.{Joins}
+use Rattle.graph.specs.Table.{partSize}
+use Rattle.graph.specs.Totals.{Keyed, Totals}
+use Rattle.graph.proofs.Rows.{proper-joins}
+use Rattle.graph.proofs.Tables.{size-cost}
+use Rattle.graph.proofs.Totals.{totals-cost}
 use Rattle.topology.specs.Reach.{lowestOnCycle}
 use Rattle.topology.proofs.Reaches.{none-acyclic, lowest-none}
 use Rattle.validity.specs.Check.{refuseAt}
@@ -20,7 +25,8 @@ use Rattle.validity.specs.declared.Cause.{Cause}
 use Rattle.validity.specs.declared.Verdict.{Verdict}
 use Rattle.validity.specs.declared.Verdict.the-variants.{Passed}
 use Rattle.validity.proofs.Passed.{passed-at}
-use Rattle.inspection.specs.Table.{badEntry, isEmpty, isOver, cyclesFrom, tableOf, Fine, Tabled}
+use Rattle.inspection.specs.Table.{badEntry, isEmpty, isOver, cyclesFrom, tableOf, Fine}
+use Rattle.inspection.specs.Inspect.{Tabled}
 
 -- a part is empty exactly if its cost is 0, where each vertex costs something
 module _ (costs parts : List ℕ) (costly : (v : ℕ) → v < length costs → 0 < getD costs v 0) where
@@ -41,54 +47,56 @@ module _ (costs parts : List ℕ) (costly : (v : ℕ) → v < length costs → 0
           absurd (omega (arith, costly v l, eqb-true (sumTo (length costs) (λ v. when (eqb (getD parts v 0) u) (getD costs v 0))) 0 t)))
           (λ n. rw n)
 
--- the checks on the sums that code holds
-module _ {costs parts sums : List ℕ} (S : Summed costs parts (length costs) sums) (k : ℕ) (few : k ≤ 16) where
-  pub empty-sums : ((v : ℕ) → v < length costs → 0 < getD costs v 0) → firstTo k (λ u. eqb (getD sums u 0) 0) ≡ firstTo k (isEmpty (length costs) parts)
-  unfolding partCost
-  empty-sums costly = firstTo-ext k _ _ (λ u l. rw (S .is u (omega arith)) (sym (empty-cost costs parts costly u)))
+module _ {G : Graph} {k : ℕ} {parts order : List ℕ} (T : Tabled G k parts order) where
+  -- the search of check 10, over the entries of the table
+  pub entry-at : {v : ℕ} → v ≡ firstTo (length parts) (badEntry k parts) → v ≡ firstTo (vertices G) (badEntry k parts)
+  entry-at e = e ∙ ap (λ (n : ℕ). firstTo n (badEntry k parts)) (T .whole)
 
-  pub over-sums : (bound : ℕ) → firstTo k (λ u. ltb bound (getD sums u 0)) ≡ firstTo k (isOver costs bound parts)
-  unfolding isOver partCost
-  over-sums bound = firstTo-ext k _ _ (λ u l. rw (S .is u (omega arith)))
-
-module _ {costs starts ends parts : List ℕ} {k : ℕ} (T : Tabled costs starts ends parts k) where
-  -- what check 10 leaves known
-  module _ (named : (v : ℕ) → v < length costs → getD parts v 0 < k) where
-    pub table-joins : Joins parts starts ends
-    table-joins =
-        record {
-          out = record { few = T .many; rows = omega (arith, T .whole, T .few); in-row = λ j h. omega (arith, T .start-in j h, T .whole); low = low };
-          into = record { few = omega (arith, T .many, T .same); rows = omega (arith, T .whole, T .few); in-row = λ j h. omega (arith, T .end-in j (omega (arith, T .same)), T .whole); low = low };
-          same = T .same;
-        }
-      where
-        low : (v : ℕ) → v < length parts → getD parts v 0 < 512
-        low v h = omega (arith, named v (omega (arith, T .whole)), T .parts-few)
-
-    pub table-inside : Inside (arcs parts starts ends) k
-    table-inside j h = (named _ (T .start-in j h), named _ (T .end-in j h))
-
-  pub entries-named : firstTo (length parts) (badEntry k parts) ≡ length parts → (v : ℕ) → v < length costs → getD parts v 0 < k
+  pub entries-left : {v : ℕ} → v ≡ firstTo (length parts) (badEntry k parts) → length parts ≤ v → (w : ℕ) → w < vertices G → getD parts w 0 < k
   unfolding badEntry
-  entries-named e v h = leb-false k (getD parts v 0) (firstTo-none (length parts) (badEntry k parts) e v (omega (arith, T .whole)))
+  entries-left e l w h =
+      leb-false k (getD parts w 0) (firstTo-none (length parts) (badEntry k parts) (omega (arith, firstTo-le (length parts) (badEntry k parts))) w (omega (arith, T .whole)))
+
+  -- what check 10 leaves known
+  module _ (named : (v : ℕ) → v < vertices G → getD parts v 0 < k) where
+    pub table-keyed : Keyed parts (G .costs) 16
+    table-keyed = record { same = T .whole; few = T .proper .few; low = λ v h. omega (arith, named v h, T .few) }
+
+    pub table-joins : Joins parts (G .starts) (G .ends)
+    table-joins = proper-joins (T .proper) parts (T .whole) (λ v h. omega (arith, named v (omega (arith, T .whole)), T .few))
+
+    pub table-inside : Inside (seen G parts) k
+    table-inside j h = (named _ (T .proper .formed .start-in j h), named _ (T .proper .formed .end-in j h))
+
+  -- checks 11 and 12, on the sums that code holds
+  module _ {sums : List ℕ} (S : Totals parts (G .costs) 16 (vertices G) sums) where
+    sum-at : (u : ℕ) → u < k → getD sums u 0 ≡ partCost (G .costs) parts u
+    sum-at u l = totals-cost parts (G .costs) S u (omega (arith, T .few))
+
+    pub empty-at : {e : ℕ} → e ≡ firstTo k (λ u. eqb (getD sums u 0) 0) → e ≡ firstTo k (isEmpty (vertices G) parts)
+    empty-at q = q ∙ firstTo-ext k _ _ (λ u l. rw (sum-at u l) (sym (empty-cost (G .costs) parts (T .proper .costly) u)))
+
+    pub over-at : (bound : ℕ) {o : ℕ} → o ≡ firstTo k (λ u. ltb bound (getD sums u 0)) → o ≡ firstTo k (isOver G bound parts)
+    unfolding isOver
+    over-at bound q = q ∙ firstTo-ext k _ _ (λ u l. rw (sum-at u l, size-cost G parts u))
 
 -- THE CLAIM below: the table passes 10 to 13 exactly if it is fine
 module _ (G : Graph) (k bound : ℕ) (parts : List ℕ) (proper : Proper G) where
   inside : ((v : ℕ) → v < vertices G → getD parts v 0 < k) → Inside (seen G parts) k
   inside named j h = (named _ (proper .formed .start-in j h), named _ (proper .formed .end-in j h))
 
-  pub passed-fine : tableOf (G .costs) (G .starts) (G .ends) k bound parts ≡ Passed → Fine G k bound parts
+  pub passed-fine : tableOf G k bound parts ≡ Passed → Fine G k bound parts
   unfolding tableOf cyclesFrom badEntry isEmpty isOver lowestOnCycle
   passed-fine e =
       let (a, r1) = passed-at _ (vertices G) (badEntry k parts) _ e in
       let (b, r2) = passed-at _ k (isEmpty (vertices G) parts) _ r1 in
-      let (c, r3) = passed-at _ k (isOver (G .costs) bound parts) _ r2 in
+      let (c, r3) = passed-at _ k (isOver G bound parts) _ r2 in
       let (d, _) = passed-at _ k _ _ r3 in
       let named : (v : ℕ) → v < vertices G → getD parts v 0 < k = λ v h. leb-false k (getD parts v 0) (a v h) in
       record {
         named = named;
         filled = λ u h. let (v, l, q) = any-e (vertices G) (λ v. eqb (getD parts v 0) u) (not-no _ (b u h)) in (v, l, eqb-true _ _ q);
-        within = λ u h. ltb-false bound (partCost (G .costs) parts u) (c u h);
+        within = λ u h. ltb-false bound (partSize G parts u) (c u h);
         acyclic = none-acyclic (seen G parts) k (inside named) (firstTo-all k _ d);
       }
 
@@ -96,18 +104,10 @@ module _ (G : Graph) (k bound : ℕ) (parts : List ℕ) (proper : Proper G) wher
   unfolding refuseAt
   pass-at cause i n x e = rw (le-ltb i n (omega arith))
 
-  pub fine-passed : Fine G k bound parts → tableOf (G .costs) (G .starts) (G .ends) k bound parts ≡ Passed
+  pub fine-passed : Fine G k bound parts → tableOf G k bound parts ≡ Passed
   unfolding tableOf cyclesFrom badEntry isEmpty isOver
   fine-passed F =
       pass-at _ _ (vertices G) _ (firstTo-all (vertices G) (badEntry k parts) (λ v h. lt-leb k (getD parts v 0) (F .named v h)))
       ∙ pass-at _ _ k _ (firstTo-all k (isEmpty (vertices G) parts) (λ u h. let (v, l, q) = F .filled u h in rw (any-i (vertices G) (λ v. eqb (getD parts v 0) u) v l (eq-eqb _ _ q))))
-      ∙ pass-at _ _ k _ (firstTo-all k (isOver (G .costs) bound parts) (λ u h. le-ltb bound (partCost (G .costs) parts u) (F .within u h)))
+      ∙ pass-at _ _ k _ (firstTo-all k (isOver G bound parts) (λ u h. le-ltb bound (partSize G parts u) (F .within u h)))
       ∙ pass-at _ _ k _ (lowest-none (seen G parts) k (inside (F .named)) (F .acyclic))
-
--- the search of check 10, over the entries of the table
-pub entry-at : {costs starts ends parts : List ℕ} {k v : ℕ} → Tabled costs starts ends parts k → v ≡ firstTo (length parts) (badEntry k parts) → v ≡ firstTo (length costs) (badEntry k parts)
-entry-at {parts = parts} {k = k} T e = e ∙ ap (λ (n : ℕ). firstTo n (badEntry k parts)) (T .whole)
-
-pub entries-left : {costs starts ends parts : List ℕ} {k v : ℕ} → Tabled costs starts ends parts k → v ≡ firstTo (length parts) (badEntry k parts) → length parts ≤ v
-    → (w : ℕ) → w < length costs → getD parts w 0 < k
-entries-left {parts = parts} {k = k} T e l = entries-named T (omega (arith, firstTo-le (length parts) (badEntry k parts)))

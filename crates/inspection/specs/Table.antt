@@ -4,10 +4,11 @@ use mathlib.Core.Path.{_≡_}
 use mathlib.Core.Bool.{Bool, not}
 use mathlib.Core.List.{List}
 use lib.Dec.{eqb, ltb, leb}
-use lib.ListN.{length, getD}
+use lib.ListN.{getD}
 use Rattle.folds.specs.Fold.{anyTo, firstTo}
 use Rattle.graph.specs.Walk.{Acyclic}
-use Rattle.graph.specs.Graph.{Graph, vertices, arcs, seen, Edge, partCost}
+use Rattle.graph.specs.Graph.{Graph, vertices, arcs, seen, Edge}
+use Rattle.graph.specs.Table.{partSize}
 use Rattle.topology.specs.Reach.{lowestOnCycle}
 use Rattle.validity.specs.Check.{refuseAt}
 use Rattle.validity.specs.declared.Cause.the-variants.{Entry, Empty, Over, PartCycle}
@@ -23,33 +24,22 @@ unfoldable pub isEmpty : ℕ → List ℕ → ℕ → Bool
 isEmpty n parts u = not (anyTo n (λ v. eqb (getD parts v 0) u))
 
 -- 12: stage over the limit
-unfoldable pub isOver : List ℕ → ℕ → List ℕ → ℕ → Bool
-isOver costs bound parts u = ltb bound (partCost costs parts u)
+unfoldable pub isOver : Graph → ℕ → List ℕ → ℕ → Bool
+isOver G bound parts u = ltb bound (partSize G parts u)
 
 -- 13: stages form a loop
 unfoldable pub cyclesFrom : List ℕ → List ℕ → ℕ → List ℕ → Verdict
 cyclesFrom starts ends k parts = refuseAt PartCycle (lowestOnCycle (arcs parts starts ends) k) k Passed
 
-unfoldable pub tableOf : List ℕ → List ℕ → List ℕ → ℕ → ℕ → List ℕ → Verdict
-tableOf costs starts ends k bound parts =
-    refuseAt Entry (firstTo (length costs) (badEntry k parts)) (length costs)
-    (refuseAt Empty (firstTo k (isEmpty (length costs) parts)) k
-    (refuseAt Over (firstTo k (isOver costs bound parts)) k (cyclesFrom starts ends k parts)))
+unfoldable pub tableOf : Graph → ℕ → ℕ → List ℕ → Verdict
+tableOf G k bound parts =
+    refuseAt Entry (firstTo (vertices G) (badEntry k parts)) (vertices G)
+    (refuseAt Empty (firstTo k (isEmpty (vertices G) parts)) k
+    (refuseAt Over (firstTo k (isOver G bound parts)) k (cyclesFrom (G .starts) (G .ends) k parts)))
 
 -- demand 2: stages filled, within the limit and free of loops among themselves, and every entry names one of them
 pub record Fine (G : Graph) (k bound : ℕ) (parts : List ℕ) : Type 0 where
   pub named : (v : ℕ) → v < vertices G → getD parts v 0 < k
   pub filled : (u : ℕ) → u < k → (v : ℕ) × (v < vertices G) × (getD parts v 0 ≡ u)
-  pub within : (u : ℕ) → u < k → partCost (G .costs) parts u ≤ bound
+  pub within : (u : ℕ) → u < k → partSize G parts u ≤ bound
   pub acyclic : Acyclic (Edge (seen G parts))
-
--- what the checks before 10 leave known
-pub record Tabled (costs starts ends parts : List ℕ) (k : ℕ) : Type 0 where
-  pub whole : length parts ≡ length costs
-  pub few : length costs ≤ 512
-  pub many : length starts ≤ 1024
-  pub same : length ends ≡ length starts
-  pub start-in : (j : ℕ) → j < length starts → getD starts j 0 < length costs
-  pub end-in : (j : ℕ) → j < length starts → getD ends j 0 < length costs
-  pub costly : (v : ℕ) → v < length costs → 0 < getD costs v 0
-  pub parts-few : k ≤ 16

@@ -1,15 +1,16 @@
 // The public call that inspects a table, and checks 10 to 13 below it.
 ghost use mathlib.Core.Path.{_≡_};
-ghost use Prim.Native.Nat.{ℕ, _<_, _≤_};
+ghost use Prim.Native.Nat.{_<_, _≤_};
 ghost use lib.ListN.{length, getD};
 ghost use lib.Dec.{eqb, ltb, leb};
 ghost use mathlib.Core.Bool.{_&&_};
-ghost use Rattle.folds.specs.Fold.{firstTo, over};
-ghost use Rattle.graph.specs.Graph.{graphOf, arcs, cut, Inside};
-ghost use Rattle.graph.specs.Links.{Joins};
+ghost use Rattle.folds.specs.Fold.{pick, firstTo, Filled, over};
+ghost use Rattle.graph.specs.Graph.{graphOf, via, arcs, joining, Inside};
+ghost use Rattle.graph.specs.Links.{Ends, Joins, Ended};
 ghost use Rattle.topology.specs.Order.{orderOf};
-ghost use Rattle.inspection.specs.Table.{badEntry, cyclesFrom, tableOf, Tabled};
-ghost use Rattle.inspection.specs.Inspect.{answerOf, inspectOf, orderAfter};
+ghost use Rattle.topology.specs.Reach.{lowestOnCycle};
+ghost use Rattle.inspection.specs.Table.{badEntry, cyclesFrom, tableOf};
+ghost use Rattle.inspection.specs.Inspect.{answerOf, inspectOf, orderAfter, Tabled, Judged};
 use validity::Cause;
 use validity::Verdict;
 
@@ -20,7 +21,7 @@ pub enum Inspected {
 }
 
 // Check 10: the lowest vertex whose entry is k or more, or how many there are.
-pub fn bad_entry(parts: &[u16], k: usize) -> usize
+fn bad_entry(parts: &[u16], k: usize) -> usize
     ensures { λ r. ⌜ r ≡ firstTo (length (now (parts .entry))) (badEntry k (now (parts .entry))) ⌝ }
 {
     let mut v: usize = 0;
@@ -34,7 +35,7 @@ pub fn bad_entry(parts: &[u16], k: usize) -> usize
 }
 
 // Check 11: the lowest of k parts with no cost, or k. Costs are above 0, so such a part is empty.
-pub fn empty_part(sums: &[u32; 16], k: usize) -> usize
+fn empty_part(sums: &[u32; 16], k: usize) -> usize
     requires { ⌜ (k ≤ 16) × (length (now sums) ≡ 16) ⌝ }
     ensures { λ r. ⌜ r ≡ firstTo k (λ u. eqb (getD (now (sums .entry)) u 0) 0) ⌝ }
 {
@@ -49,7 +50,7 @@ pub fn empty_part(sums: &[u32; 16], k: usize) -> usize
 }
 
 // Check 12: the lowest of k parts over the bound, or k.
-pub fn over_part(sums: &[u32; 16], k: usize, bound: u32) -> usize
+fn over_part(sums: &[u32; 16], k: usize, bound: u32) -> usize
     requires { ⌜ (k ≤ 16) × (length (now sums) ≡ 16) ⌝ }
     ensures { λ r. ⌜ r ≡ firstTo k (λ u. ltb bound (getD (now (sums .entry)) u 0)) ⌝ }
 {
@@ -63,54 +64,40 @@ pub fn over_part(sums: &[u32; 16], k: usize, bound: u32) -> usize
     u
 }
 
-// Check 13: the stages form no cycle among themselves.
-fn check_cycles(starts: &[u16], ends: &[u16], parts: &[u16], k: usize) -> Verdict
-    requires { ⌜ Joins (now parts) (now starts) (now ends) ⌝ }
-    requires { ⌜ Inside (arcs (now parts) (now starts) (now ends)) k ⌝ }
-    requires { ⌜ k ≤ 16 ⌝ }
-    ensures { λ r. ⌜ r ≡ cyclesFrom (now (starts .entry)) (now (ends .entry)) k (now (parts .entry)) ⌝ }
+// Writes the part at each edge's end to the front of out.
+fn part_ends(parts: &[u16], ends: &[u16], out: &mut [u16; 1024])
+    requires { ⌜ Ends (now parts) (now ends) ⌝ }
+    requires { ⌜ length (now out) ≡ 1024 ⌝ }
+    ensures { λ _. ⌜ Filled (now (out .entry)) (now (out .exit)) (length (now (ends .entry))) (via (now (parts .entry)) (now (ends .entry))) ⌝ }
+{
+    let mut j: usize = 0;
+    while j < ends.len() {
+        out[j] = graph::cluster(parts, ends, j) as u16;
+        j += 1;
+    }
+}
+
+// The lowest of k parts on a cycle, or k: then their start order is in the front of `order`.
+fn order_parts(from: &[u16], to: &[u16], k: usize, order: &mut [u16]) -> usize
+    requires { ⌜ Ended (now from) (now to) ⌝ }
+    requires { ⌜ Inside (joining (now from) (now to)) k ⌝ }
+    requires { ⌜ (k ≤ 16) × (k ≤ length (now order)) ⌝ }
+    ensures { λ r. ⌜ r ≡ lowestOnCycle (joining (now (from .entry)) (now (to .entry))) k ⌝ }
+    ensures { λ r. ⌜ now (order .exit) ≡ pick (ltb r k) (now (order .entry)) (over (orderOf (joining (now (from .entry)) (now (to .entry))) k) (now (order .entry))) ⌝ }
 {
     let mut taken = [0u16; 512];
     let mut head = [0u16; 513];
     let mut next = [0u16; 1024];
-    let u = topology::lowest_on_cycle(parts, starts, ends, k, &mut taken, &mut head, &mut next);
+    let u = topology::lowest_on_cycle(from, to, k, &mut taken, &mut head, &mut next);
     if u < k {
-        return Verdict::Refused(Cause::PartCycle, u);
+        return u;
     }
-    Verdict::Passed
+    topology::order_by(from, to, &head, &next, k, order);
+    u
 }
 
-// Checks 10 to 13.
-pub fn check_table(
-    costs: &[u16],
-    starts: &[u16],
-    ends: &[u16],
-    parts: &[u16],
-    k: usize,
-    bound: u32,
-) -> Verdict
-    requires { ⌜ Tabled (now costs) (now starts) (now ends) (now parts) k ⌝ }
-    ensures { λ r. ⌜ r ≡ tableOf (now (costs .entry)) (now (starts .entry)) (now (ends .entry)) k bound (now (parts .entry)) ⌝ }
-{
-    let v = bad_entry(parts, k);
-    if v < parts.len() {
-        return Verdict::Refused(Cause::Entry, v);
-    }
-    let mut sums = [0u32; 16];
-    graph::part_costs(costs, parts, &mut sums);
-    let e = empty_part(&sums, k);
-    if e < k {
-        return Verdict::Refused(Cause::Empty, e);
-    }
-    let o = over_part(&sums, k, bound);
-    if o < k {
-        return Verdict::Refused(Cause::Over, o);
-    }
-    check_cycles(starts, ends, parts, k)
-}
-
-// The start order of a table that passed, and its cut.
-fn pass(
+// Check 13, on the edges between parts; where it passes too, the start order and the cut.
+fn finish(
     starts: &[u16],
     ends: &[u16],
     widths: &[u16],
@@ -119,13 +106,52 @@ fn pass(
     order: &mut [u16],
 ) -> Inspected
     requires { ⌜ Joins (now parts) (now starts) (now ends) ⌝ }
+    requires { ⌜ Inside (arcs (now parts) (now starts) (now ends)) k ⌝ }
     requires { ⌜ length (now widths) ≡ length (now starts) ⌝ }
     requires { ⌜ (k ≤ 16) × (k ≤ length (now order)) ⌝ }
-    ensures { λ r. ⌜ r ≡ Inspected.Cut (cut (arcs (now (parts .entry)) (now (starts .entry)) (now (ends .entry))) (now (widths .entry))) ⌝ }
-    ensures { λ _. ⌜ now (order .exit) ≡ over (orderOf (arcs (now (parts .entry)) (now (starts .entry)) (now (ends .entry))) k) (now (order .entry)) ⌝ }
+    ensures { λ r. ⌜ Judged (cyclesFrom (now (starts .entry)) (now (ends .entry)) k (now (parts .entry))) (arcs (now (parts .entry)) (now (starts .entry)) (now (ends .entry))) (now (widths .entry)) k (now (order .entry)) (now (order .exit)) r ⌝ }
 {
-    topology::order(parts, starts, ends, k, order);
+    let mut from = [0u16; 1024];
+    let mut to = [0u16; 1024];
+    part_ends(parts, starts, &mut from);
+    part_ends(parts, ends, &mut to);
+    let m = starts.len();
+    let u = order_parts(&from[..m], &to[..m], k, order);
+    if u < k {
+        return Inspected::Failed(Cause::PartCycle, u);
+    }
     Inspected::Cut(graph::cut_of(parts, starts, ends, widths))
+}
+
+// Checks 10 to 12, and what follows them.
+fn check_table(
+    costs: &[u16],
+    starts: &[u16],
+    ends: &[u16],
+    widths: &[u16],
+    k: usize,
+    bound: u32,
+    parts: &[u16],
+    order: &mut [u16],
+) -> Inspected
+    requires { ⌜ Tabled (graphOf (now costs) (now starts) (now ends) (now widths)) k (now parts) (now order) ⌝ }
+    ensures { λ r. ⌜ Judged (tableOf (graphOf (now (costs .entry)) (now (starts .entry)) (now (ends .entry)) (now (widths .entry))) k bound (now (parts .entry))) (arcs (now (parts .entry)) (now (starts .entry)) (now (ends .entry))) (now (widths .entry)) k (now (order .entry)) (now (order .exit)) r ⌝ }
+{
+    let v = bad_entry(parts, k);
+    if v < parts.len() {
+        return Inspected::Failed(Cause::Entry, v);
+    }
+    let mut sums = [0u32; 16];
+    graph::sum_costs(parts, costs, &mut sums);
+    let e = empty_part(&sums, k);
+    if e < k {
+        return Inspected::Failed(Cause::Empty, e);
+    }
+    let o = over_part(&sums, k, bound);
+    if o < k {
+        return Inspected::Failed(Cause::Over, o);
+    }
+    finish(starts, ends, widths, parts, k, order)
 }
 
 fn enough(table: usize, n: usize, order: usize, k: usize) -> bool
@@ -172,10 +198,5 @@ pub fn inspect(
     if let Verdict::Refused(cause, place) = checked {
         return Inspected::Failed(cause, place);
     }
-    let parts = &table[..n];
-    let verdict = check_table(costs, starts, ends, parts, k, bound);
-    if let Verdict::Refused(cause, place) = verdict {
-        return Inspected::Failed(cause, place);
-    }
-    pass(starts, ends, widths, parts, k, order)
+    check_table(costs, starts, ends, widths, k, bound, &table[..n], order)
 }

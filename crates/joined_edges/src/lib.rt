@@ -4,7 +4,7 @@ ghost use Prim.Native.Nat.{ℕ, _+_, _<_, _≤_};
 ghost use lib.ListN.{length, getD};
 ghost use Rattle.folds.specs.Fold.{zeros};
 ghost use Rattle.graph.specs.Graph.{arcs, Inside};
-ghost use Rattle.graph.specs.Links.{Linked, Joins, leave};
+ghost use Rattle.graph.specs.Links.{Linked, Joins, leave, Leaves};
 ghost use Rattle.graph.specs.Coarse.{Narrow};
 ghost use Rattle.joined_edges.specs.Joining.{Widths, Written, Put};
 
@@ -92,6 +92,40 @@ fn emit(
     k
 }
 
+// The cluster that edge j leaves at its near end, or 512 where both ends lie in one.
+fn leaves(row: &[u16], near: &[u16], far: &[u16], j: usize) -> usize
+    requires { ⌜ Joins (now row) (now near) (now far) ⌝ }
+    requires { ⌜ j < length (now near) ⌝ }
+    ensures { λ r. ⌜ Leaves (arcs (now (row .entry)) (now (near .entry)) (now (far .entry))) j r ⌝ }
+{
+    let a = graph::cluster(row, near, j);
+    let b = graph::cluster(row, far, j);
+    if a == b { 512 } else { a }
+}
+
+// Fills the lists of the edges that leave a cluster, by the cluster of their near end, from the last edge down.
+fn fill_leaving(
+    row: &[u16],
+    near: &[u16],
+    far: &[u16],
+    head: &mut [u16; 513],
+    next: &mut [u16; 1024],
+)
+    requires { ⌜ Joins (now row) (now near) (now far) ⌝ }
+    requires { ⌜ length (now next) ≡ 1024 ⌝ }
+    ensures { λ _. ⌜ Linked (leave (arcs (now (row .entry)) (now (near .entry)) (now (far .entry)))) (length (now (near .entry))) (now (head .exit)) (now (next .exit)) ⌝ }
+{
+    let m = near.len();
+    *head = [m as u16; 513];
+    let mut j: usize = m;
+    while j > 0 {
+        j -= 1;
+        let k = leaves(row, near, far, j);
+        next[j] = head[k];
+        head[k] = j as u16;
+    }
+}
+
 // Lists the edges between the g clusters of a row, all from one to another as one with their summed width. Answers how many there are.
 pub fn join_edges(
     row: &[u16],
@@ -112,7 +146,7 @@ pub fn join_edges(
     let mut head = [0u16; 513];
     let mut next = [0u16; 1024];
     let mut sums = [0; 512];
-    graph::fill_leaving(row, starts, ends, &mut head, &mut next);
+    fill_leaving(row, starts, ends, &mut head, &mut next);
     let mut n: usize = 0;
     let mut u: usize = 0;
     while u < g {

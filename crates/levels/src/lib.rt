@@ -1,10 +1,10 @@
-// Levels of the clusters of a row, by one sweep in topological order.
+// Levels of the clusters that the edges of a list join, by one sweep in topological order.
 ghost use mathlib.Core.Path.{_≡_};
 ghost use Prim.Native.Nat.{ℕ, _+_, _<_, _≤_};
 ghost use lib.ListN.{length, getD};
 ghost use Rattle.folds.specs.Fold.{over, zeros};
-ghost use Rattle.graph.specs.Graph.{arcs};
-ghost use Rattle.graph.specs.Links.{Linked, Joins, leave};
+ghost use Rattle.graph.specs.Graph.{joining};
+ghost use Rattle.graph.specs.Links.{Linked, Ended, leave};
 ghost use Rattle.topology.specs.Level.{level, levelsOf};
 ghost use Rattle.levels.specs.Sweep.{Layered, Ordered, raisedOf, Under, Raised};
 
@@ -23,7 +23,6 @@ fn lift(levels: &mut [u16; 512], u: usize, b: usize, x: u16)
 
 // Raises what the edges of u go to above the level of u.
 fn raise(
-    row: &[u16],
     starts: &[u16],
     ends: &[u16],
     head: &[u16; 513],
@@ -32,25 +31,24 @@ fn raise(
     u: usize,
     levels: &mut [u16; 512],
 )
-    requires { ⌜ Joins (now row) (now starts) (now ends) ⌝ }
-    requires { ⌜ Linked (leave (arcs (now row) (now starts) (now ends))) (length (now starts)) (now head) (now next) ⌝ }
-    requires { ⌜ (u < g) × Layered (arcs (now row) (now starts) (now ends)) g ⌝ }
-    requires { ⌜ Under (arcs (now row) (now starts) (now ends)) g (now levels) × (getD (now levels) u 0 ≡ level (arcs (now row) (now starts) (now ends)) g u) ⌝ }
-    ensures { λ _. ⌜ Raised (arcs (now (row .entry)) (now (starts .entry)) (now (ends .entry))) g u (length (now (starts .entry))) (now (levels .entry)) (now (levels .exit)) ⌝ }
+    requires { ⌜ Ended (now starts) (now ends) ⌝ }
+    requires { ⌜ Linked (leave (joining (now starts) (now ends))) (length (now starts)) (now head) (now next) ⌝ }
+    requires { ⌜ (u < g) × Layered (joining (now starts) (now ends)) g ⌝ }
+    requires { ⌜ Under (joining (now starts) (now ends)) g (now levels) × (getD (now levels) u 0 ≡ level (joining (now starts) (now ends)) g u) ⌝ }
+    ensures { λ _. ⌜ Raised (joining (now (starts .entry)) (now (ends .entry))) g u (length (now (starts .entry))) (now (levels .entry)) (now (levels .exit)) ⌝ }
 {
     let m = starts.len();
     let x = levels[u] + 1;
     let mut j = folds::wide(head[u]);
     while j < m {
-        let b = graph::cluster(row, ends, j);
+        let b = graph::end_at(ends, j);
         lift(levels, u, b, x);
         j = folds::wide(next[j]);
     }
 }
 
-// The levels of the g clusters of a row, from their topological order.
+// The levels of g clusters, from their topological order.
 pub fn sweep(
-    row: &[u16],
     starts: &[u16],
     ends: &[u16],
     head: &[u16; 513],
@@ -59,17 +57,17 @@ pub fn sweep(
     g: usize,
     levels: &mut [u16; 512],
 )
-    requires { ⌜ Joins (now row) (now starts) (now ends) ⌝ }
-    requires { ⌜ Linked (leave (arcs (now row) (now starts) (now ends))) (length (now starts)) (now head) (now next) ⌝ }
-    requires { ⌜ Layered (arcs (now row) (now starts) (now ends)) g ⌝ }
-    requires { ⌜ Ordered (arcs (now row) (now starts) (now ends)) g (now order) ⌝ }
-    ensures { λ _. ⌜ now (levels .exit) ≡ over (levelsOf (arcs (now (row .entry)) (now (starts .entry)) (now (ends .entry))) g) (zeros 512) ⌝ }
+    requires { ⌜ Ended (now starts) (now ends) ⌝ }
+    requires { ⌜ Linked (leave (joining (now starts) (now ends))) (length (now starts)) (now head) (now next) ⌝ }
+    requires { ⌜ Layered (joining (now starts) (now ends)) g ⌝ }
+    requires { ⌜ Ordered (joining (now starts) (now ends)) g (now order) ⌝ }
+    ensures { λ _. ⌜ now (levels .exit) ≡ over (levelsOf (joining (now (starts .entry)) (now (ends .entry))) g) (zeros 512) ⌝ }
 {
     *levels = [0; 512];
     let mut i: usize = 0;
     while i < g {
         let u = folds::at16(order, i);
-        raise(row, starts, ends, head, next, g, u, levels);
+        raise(starts, ends, head, next, g, u, levels);
         i += 1;
     }
 }

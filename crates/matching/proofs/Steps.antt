@@ -11,10 +11,9 @@ use borrow.Author.Tests.{ltb-true, ltb-false}
 use Rattle.folds.specs.Fold.{anyTo, listTo, over, zeros}
 use Rattle.folds.proofs.Cases.{by, either}
 use Rattle.folds.proofs.Lists.{listed, length-listTo, length-zeros, getD-past}
-use Rattle.graph.specs.Graph.{Graph, graphOf, Arcs, arcs, seen, Inside, identity, partCost}
-use Rattle.graph.specs.Links.{Joins}
+use Rattle.graph.specs.Graph.{Graph, graphOf, Arcs, arcs, joining, seen, Inside, identity, partCost}
 use Rattle.graph.specs.Rows.{clusters}
-use Rattle.graph.proofs.Edges.{row-inside}
+use Rattle.graph.proofs.Edges.{row-inside, joining-is}
 use Rattle.topology.specs.Level.{levelsOf}
 use Rattle.topology.specs.Order.{orderOf}
 use Rattle.topology.proofs.Orders.{order-all, order-below}
@@ -33,44 +32,42 @@ use Rattle.matching.proofs.Lists.{cost-identity}
 pub widest-low : {A : Arcs} {f : ℕ → ℕ} {u j width to : ℕ} → Widest A f u j width to → (width ≡ 0 → ⊥) → to < 512
 widest-low W n = either (W .hit) (λ e. absurd (n e)) (λ h. h .1)
 
-module _ (row starts ends widths levels costs mates tos blocked : List ℕ) (bound u : ℕ) (lu : u < 512) (T : Tall mates tos blocked) where
-  abbrev A : Arcs
-  A = arcs row starts ends
-
+-- a visit reads the edges A, which are those that a row sees
+module _ (A : Arcs) (starts ends widths levels costs mates tos blocked : List ℕ) (bound u : ℕ) (lu : u < 512) (T : Tall mates tos blocked) where
   -- the visit takes none
   abbrev Stays : Type 0
-  Stays = (vs : List ℕ) (g : ℕ) → Context (graphOf vs starts ends widths) row g levels costs → (ps : Round) → Keeps A g ps → Holds A levels ps mates tos blocked
-      → visit (graphOf vs starts ends widths) row (levelsOf A g) g bound ps u ≡ ps
+  Stays = (vs row : List ℕ) (g : ℕ) → arcs row starts ends ≡ A → Context (graphOf vs starts ends widths) row g levels costs → (ps : Round) → Keeps (arcs row starts ends) g ps
+      → Holds (arcs row starts ends) levels ps mates tos blocked → visit (graphOf vs starts ends widths) row (levelsOf (arcs row starts ends) g) g bound ps u ≡ ps
 
-  stays : Stays → Stepped row starts ends widths levels costs bound u mates tos blocked mates tos blocked 0
+  stays : Stays → Stepped A starts ends widths levels costs bound u mates tos blocked mates tos blocked 0
   stays h =
       record {
         tall = T;
         few = omega arith;
-        is = λ vs g C ps K H. let e = h vs g C ps K H in record { holds = rw e H; counts = rw e (omega arith) };
+        is = λ vs row g q C ps K H. let e = h vs row g q C ps K H in record { holds = rw e H; counts = rw e (omega arith) };
       }
 
-  pub stepped-mated : {x : ℕ} → x ≡ getD mates u 0 → (x ≡ u → ⊥) → Stepped row starts ends widths levels costs bound u mates tos blocked mates tos blocked 0
-  stepped-mated e n = stays (λ vs g C ps K H. visit-mated (graphOf vs starts ends widths) row g bound levels costs mates tos blocked C ps K H u lu e n)
+  pub stepped-mated : {x : ℕ} → x ≡ getD mates u 0 → (x ≡ u → ⊥) → Stepped A starts ends widths levels costs bound u mates tos blocked mates tos blocked 0
+  stepped-mated e n = stays (λ vs row g q C ps K H. visit-mated (graphOf vs starts ends widths) row g bound levels costs mates tos blocked C ps K H u lu e n)
 
-  pub stepped-stopped : {r : Bool} → r ≡ anyTo (length starts) (haltsAt A levels tos u) → r ≡ true → Stepped row starts ends widths levels costs bound u mates tos blocked mates tos blocked 0
-  stepped-stopped e t = stays (λ vs g C ps K H. visit-stopped (graphOf vs starts ends widths) row g bound levels costs mates tos blocked C ps K H u lu e t)
+  pub stepped-stopped : {r : Bool} → r ≡ anyTo (length starts) (haltsAt A levels tos u) → r ≡ true → Stepped A starts ends widths levels costs bound u mates tos blocked mates tos blocked 0
+  stepped-stopped e t = stays (λ vs row g q C ps K H. visit-stopped (graphOf vs starts ends widths) row g bound levels costs mates tos blocked C ps K H u lu (rw (← q) at e) t)
 
   module _ {x : ℕ} (ex : x ≡ getD mates u 0) (single : x ≡ u) {r : Bool} (er : r ≡ anyTo (length starts) (haltsAt A levels tos u)) (goes : r ≡ false)
       {width to : ℕ} (W : Widest A (offerOf A widths levels mates blocked costs bound u) u (length starts) width to) where
-    pub stepped-none : width ≡ 0 → Stepped row starts ends widths levels costs bound u mates tos blocked mates tos blocked 0
-    stepped-none e = stays (λ vs g C ps K H. visit-keeps (graphOf vs starts ends widths) row g bound levels costs mates tos blocked C ps K H u lu ex single er goes W e)
+    pub stepped-none : width ≡ 0 → Stepped A starts ends widths levels costs bound u mates tos blocked mates tos blocked 0
+    stepped-none e = stays (λ vs row g q C ps K H. visit-keeps (graphOf vs starts ends widths) row g bound levels costs mates tos blocked C ps K H u lu ex single (rw (← q) at er) goes (rw (← q) at W) e)
 
     pub stepped-pair : {mates′ tos′ blocked′ : List ℕ} → (width ≡ 0 → ⊥) → Paired A levels u to mates tos blocked mates′ tos′ blocked′
-        → Stepped row starts ends widths levels costs bound u mates tos blocked mates′ tos′ blocked′ 1
+        → Stepped A starts ends widths levels costs bound u mates tos blocked mates′ tos′ blocked′ 1
     stepped-pair {blocked′ = blocked′} n P =
         record {
           tall = rw (P .mates-are, P .tos-are) tall;
           few = omega arith;
-          is = λ vs g C ps K H.
-              let (e, t) = visit-takes (graphOf vs starts ends widths) row g bound levels costs mates tos blocked C ps K H u lu ex single er goes W n in
+          is = λ vs row g q C ps K H.
+              let (e, t) = visit-takes (graphOf vs starts ends widths) row g bound levels costs mates tos blocked C ps K H u lu ex single (rw (← q) at er) goes (rw (← q) at W) n in
               record {
-                holds = rw (e, P .mates-are, P .tos-are) (holds-pair A levels mates tos blocked _ ps u to T H lu (widest-low W n) t (P .blocks));
+                holds = rw (e, P .mates-are, P .tos-are) (holds-pair (arcs row starts ends) levels mates tos blocked _ ps u to T H lu (widest-low W n) t (rw (← q) at (P .blocks)));
                 counts = rw e (omega arith);
               };
         }
@@ -78,31 +75,19 @@ module _ (row starts ends widths levels costs mates tos blocked : List ℕ) (bou
         tall : Tall (set (set mates u to) to u) (set tos to 1) blocked′
         tall = record { mates-tall = length-set (set mates u to) to u ∙ length-set mates u to ∙ T .mates-tall; tos-tall = length-set tos to 1 ∙ T .tos-tall; blocked-tall = P .blocks .tall }
 
--- what a row that is ready gives to the loops
-module _ {costs row starts ends widths : List ℕ} {g : ℕ} (R : Ready (graphOf costs starts ends widths) row g) where
-  pub ready-joins : Joins row starts ends
-  ready-joins =
-      record {
-        out = record {
-          few = R .proper .many;
-          rows = omega (arith, R .row-of .whole, R .proper .few);
-          in-row = λ j l. rw (R .row-of .whole) (R .proper .formed .start-in j l);
-          low = low;
-        };
-        into = record {
-          few = omega (arith, R .proper .many, R .proper .formed .same-ends);
-          rows = omega (arith, R .row-of .whole, R .proper .few);
-          in-row = λ j l. rw (R .row-of .whole) (R .proper .formed .end-in j (omega (arith, R .proper .formed .same-ends)));
-          low = low;
-        };
-        same = R .proper .formed .same-ends;
-      }
-    where
-      low : (v : ℕ) → v < length row → getD row v 0 < 512
-      low v l = omega (arith, R .row-of .below v (omega (arith, R .row-of .whole)), R .small)
+-- the lists of a rung name its clusters themselves
+module _ {costs starts ends widths : List ℕ} {g : ℕ} (R : Ready (graphOf costs starts ends widths) (identity g) g) where
+  pub ready-joining : arcs (identity g) starts ends ≡ joining starts ends
+  unfolding identity
+  ready-joining =
+      let n : length (identity g) ≡ g = length-listTo _ _ in
+      joining-is g starts ends (λ j l. omega (arith, R .row-of .whole, R .proper .formed .start-in j l))
+      (λ j l. omega (arith, R .row-of .whole, R .proper .formed .end-in j (omega (arith, R .proper .formed .same-ends))))
 
-  pub ready-layered : Layered (arcs row starts ends) g
-  ready-layered = record { inside = row-inside (R .proper .formed) (R .row-of); acyclic = R .acyclic; small = R .small }
+  pub ready-layered : Layered (joining starts ends) g
+  ready-layered =
+      let Y : Layered (arcs (identity g) starts ends) g = record { inside = row-inside (R .proper .formed) (R .row-of); acyclic = R .acyclic; small = R .small } in
+      rw ready-joining at Y
 
 round-at : (G : Graph) (bound : ℕ) (row : List ℕ) (g : ℕ) → g ≡ clusters row → roundOf G bound row ≡ visits G row (levelsOf (seen G row) g) g bound [] (orderOf (seen G row) g)
 unfolding roundOf
@@ -116,7 +101,7 @@ pub record Rounding (G : Graph) (row levels : List ℕ) (g bound i : ℕ) (mates
   pub holds : Holds (seen G row) levels (visits G row (levelsOf (seen G row) g) g bound [] (take i (orderOf (seen G row) g))) mates tos blocked
   pub counts : count ≡ length (visits G row (levelsOf (seen G row) g) g bound [] (take i (orderOf (seen G row) g)))
 
-module _ (G : Graph) (row levels costs : List ℕ) (g bound : ℕ) (C : Context G row g levels costs) where
+module _ (G : Graph) (row levels costs : List ℕ) (g bound : ℕ) (C : Context G row g levels costs) {A : Arcs} (same : seen G row ≡ A) where
   inside : Inside (seen G row) g
   inside = row-inside (C .ready .proper .formed) (C .ready .row-of)
 
@@ -135,19 +120,22 @@ module _ (G : Graph) (row levels costs : List ℕ) (g bound : ℕ) (C : Context 
         counts = refl;
       })
 
-  pub order-low : {i u : ℕ} {order : List ℕ} → Ordered (seen G row) g order → i < g → u ≡ getD order i 0 → u < 512
-  order-low {i} O l e = let h = order-below (seen G row) g inside i (omega (arith, all)) in omega (arith, O .is i l, C .ready .small)
+  order-is : {order : List ℕ} → Ordered A g order → (i : ℕ) → i < g → getD order i 0 ≡ getD (orderOf (seen G row) g) i 0
+  order-is O = rw (← same) at (O .is)
 
-  pub rounding-turn : {i u r count : ℕ} {order mates tos blocked mates′ tos′ blocked′ : List ℕ} → Ordered (seen G row) g order → i < g → u ≡ getD order i 0
+  pub order-low : {i u : ℕ} {order : List ℕ} → Ordered A g order → i < g → u ≡ getD order i 0 → u < 512
+  order-low {i} O l e = let h = order-below (seen G row) g inside i (omega (arith, all)) in omega (arith, order-is O i l, C .ready .small)
+
+  pub rounding-turn : {i u r count : ℕ} {order mates tos blocked mates′ tos′ blocked′ : List ℕ} → Ordered A g order → i < g → u ≡ getD order i 0
       → Rounding G row levels g bound i mates tos blocked count
-      → Stepped row (G .starts) (G .ends) (G .widths) levels costs bound u mates tos blocked mates′ tos′ blocked′ r
+      → Stepped A (G .starts) (G .ends) (G .widths) levels costs bound u mates tos blocked mates′ tos′ blocked′ r
       → Rounding G row levels g bound (i + 1) mates′ tos′ blocked′ (count + r)
   rounding-turn {i} {u} {r} {count} O l e N S =
       let L = levelsOf (seen G row) g in
       let ps = visits G row L g bound [] (take i (orderOf (seen G row) g)) in
       let q : visits G row L g bound [] (take (i + 1) (orderOf (seen G row) g)) ≡ visit G row L g bound ps u =
-      visits-more G row L g bound [] (orderOf (seen G row) g) i (omega (arith, all)) ∙ ap (visit G row L g bound ps) (sym (O .is i l) ∙ sym e) in
-      let W = S .is (G .costs) g C ps (N .keeps .0) (N .holds) in
+      visits-more G row L g bound [] (orderOf (seen G row) g) i (omega (arith, all)) ∙ ap (visit G row L g bound ps) (sym (order-is O i l) ∙ sym e) in
+      let W = S .is (G .costs) row g same C ps (N .keeps .0) (N .holds) in
       record {
         tall = S .tall;
         few = omega (arith, N .few, S .few);
@@ -168,18 +156,19 @@ module _ (G : Graph) (row levels costs : List ℕ) (g bound : ℕ) (C : Context 
       }
 
 -- the arrays that the round has made
-module _ {weights row starts ends widths : List ℕ} {g : ℕ} (R : Ready (graphOf (take g weights) starts ends widths) row g) (W : Weights g weights) (e : row ≡ identity g) where
-  costs-are : (c : ℕ) → getD weights c 0 ≡ partCost (take g weights) row c
+module _ {weights starts ends widths : List ℕ} {g : ℕ} (R : Ready (graphOf (take g weights) starts ends widths) (identity g) g) (W : Weights g weights) where
+  costs-are : (c : ℕ) → getD weights c 0 ≡ partCost (take g weights) (identity g) c
   costs-are c =
       let n : length (take g weights) ≡ g = length-take-le g weights (omega (arith, W .tall, R .small)) in
       by (ltb c g) (λ t. sym (getD-take g weights c 0 (ltb-true c g t))) (λ t. W .past c (ltb-false c g t) ∙ sym (getD-past (take g weights) c (omega (arith, ltb-false c g t))))
       ∙ sym (cost-identity (take g weights) c)
-      ∙ ap (λ (l : List ℕ). partCost (take g weights) l c) (ap identity n ∙ sym e)
+      ∙ ap (λ (l : ℕ). partCost (take g weights) (identity l) c) n
 
-  pub round-context : {levels : List ℕ} → levels ≡ over (levelsOf (arcs row starts ends) g) (zeros 512) → Context (graphOf (take g weights) starts ends widths) row g levels weights
-  round-context q =
+  pub round-context : {levels : List ℕ} → levels ≡ over (levelsOf (joining starts ends) g) (zeros 512) → Context (graphOf (take g weights) starts ends widths) (identity g) g levels weights
+  round-context {levels} q =
+      let e : levels ≡ over (levelsOf (arcs (identity g) starts ends) g) (zeros 512) = rw (ready-joining R) q in
       record {
         ready = R;
-        levels-are = λ v. ap (λ (l : List ℕ). getD l v 0) q ∙ over-level (arcs row starts ends) g v;
+        levels-are = λ v. ap (λ (l : List ℕ). getD l v 0) e ∙ over-level (arcs (identity g) starts ends) g v;
         costs-are = λ c _. costs-are c;
       }

@@ -64,11 +64,11 @@ pub record Visited (G : Graph) (row levels : List ℕ) (g bound : ℕ) (ps : Rou
   pub holds : Holds (seen G row) levels (visit G row (levelsOf (seen G row) g) g bound ps u) mates tos blocked
   pub counts : length (visit G row (levelsOf (seen G row) g) g bound ps u) ≡ length ps + r
 
--- one visit, whatever pairs the arrays hold
-pub record Stepped (row starts ends widths levels costs : List ℕ) (bound u : ℕ) (mates tos blocked mates′ tos′ blocked′ : List ℕ) (r : ℕ) : Type 0 where
+-- one visit over the edges A, whatever pairs the arrays hold
+pub record Stepped (A : Arcs) (starts ends widths levels costs : List ℕ) (bound u : ℕ) (mates tos blocked mates′ tos′ blocked′ : List ℕ) (r : ℕ) : Type 0 where
   pub tall : Tall mates′ tos′ blocked′
   pub few : r ≤ 1
-  pub is : (vs : List ℕ) (g : ℕ) → Context (graphOf vs starts ends widths) row g levels costs → (ps : Round) → Keeps (arcs row starts ends) g ps
+  pub is : (vs row : List ℕ) (g : ℕ) → arcs row starts ends ≡ A → Context (graphOf vs starts ends widths) row g levels costs → (ps : Round) → Keeps (arcs row starts ends) g ps
       → Holds (arcs row starts ends) levels ps mates tos blocked → Visited (graphOf vs starts ends widths) row levels g bound ps u mates′ tos′ blocked′ r
 
 -- the mates of the round's pairs, r of them

@@ -3,8 +3,8 @@ ghost use mathlib.Core.Path.{_≡_};
 ghost use Prim.Native.Nat.{ℕ, _+_, _<_, _≤_};
 ghost use lib.ListN.{length, getD, take};
 ghost use Rattle.folds.specs.Fold.{listTo, over, zeros};
-ghost use Rattle.graph.specs.Graph.{graphOf, identity, arcs};
-ghost use Rattle.graph.specs.Links.{Linked, Joins, leave};
+ghost use Rattle.graph.specs.Graph.{graphOf, identity, joining};
+ghost use Rattle.graph.specs.Links.{Linked, Ended, leave};
 ghost use Rattle.topology.specs.Level.{levelsOf};
 ghost use Rattle.levels.specs.Sweep.{Ordered};
 ghost use Rattle.offers.specs.State.{Simple, offerOf, Widest};
@@ -12,7 +12,6 @@ ghost use Rattle.matching.specs.Held.{Ready, Weights, Tall, Paired, Step
 
 // The widest offer to u, of the lowest cluster that makes it.
 fn best_for(
-    row: &[u16],
     starts: &[u16],
     ends: &[u16],
     widths: &[u32],
@@ -25,14 +24,13 @@ fn best_for(
     bound: u32,
     u: usize,
 ) -> offers::Best
-    requires { ⌜ Simple (now row) (now starts) (now ends) (now widths) ⌝ }
-    requires { ⌜ Linked (leave (arcs (now row) (now starts) (now ends))) (length (now starts)) (now head) (now next) ⌝ }
+    requires { ⌜ Simple (now starts) (now ends) (now widths) ⌝ }
+    requires { ⌜ Linked (leave (joining (now starts) (now ends))) (length (now starts)) (now head) (now next) ⌝ }
     requires { ⌜ (u < 512) × ((c : ℕ) → getD (now costs) c 0 ≤ 33553920) ⌝ }
-    ensures { λ r. ⌜ Widest (arcs (now (row .entry)) (now (starts .entry)) (now (ends .entry))) (offerOf (arcs (now (row .entry)) (now (starts .entry)) (now (ends .entry))) (now (widths .entry)) (now (levels .entry)) (now (mates .entry)) (now (blocked .entry)) (now (costs .entry)) bound u) u (length (now (starts .entry))) (r .width) (r .to) ⌝ }
+    ensures { λ r. ⌜ Widest (joining (now (starts .entry)) (now (ends .entry))) (offerOf (joining (now (starts .entry)) (now (ends .entry))) (now (widths .entry)) (now (levels .entry)) (now (mates .entry)) (now (blocked .entry)) (now (costs .entry)) bound u) u (length (now (starts .entry))) (r .width) (r .to) ⌝ }
 {
-    let total = offers::total(row, starts, ends, widths, head, next, u);
+    let total = offers::total(starts, ends, widths, head, next, u);
     offers::choose(
-        row,
         starts,
         ends,
         widths,
@@ -50,7 +48,6 @@ fn best_for(
 
 // Makes u and v a pair.
 fn join(
-    row: &[u16],
     starts: &[u16],
     ends: &[u16],
     head: &[u16; 513],
@@ -62,13 +59,13 @@ fn join(
     tos: &mut [u8; 512],
     blocked: &mut [u8; 512],
 )
-    requires { ⌜ Joins (now row) (now starts) (now ends) ⌝ }
-    requires { ⌜ Linked (leave (arcs (now row) (now starts) (now ends))) (length (now starts)) (now head) (now next) ⌝ }
+    requires { ⌜ Ended (now starts) (now ends) ⌝ }
+    requires { ⌜ Linked (leave (joining (now starts) (now ends))) (length (now starts)) (now head) (now next) ⌝ }
     requires { ⌜ (u < 512) × (v < 512) ⌝ }
     requires { ⌜ Tall (now mates) (now tos) (now blocked) ⌝ }
-    ensures { λ _. ⌜ Paired (arcs (now (row .entry)) (now (starts .entry)) (now (ends .entry))) (now (levels .entry)) u v (now (mates .entry)) (now (tos .entry)) (now (blocked .entry)) (now (mates .exit)) (now (tos .exit)) (now (blocked .exit)) ⌝ }
+    ensures { λ _. ⌜ Paired (joining (now (starts .entry)) (now (ends .entry))) (now (levels .entry)) u v (now (mates .entry)) (now (tos .entry)) (now (blocked .entry)) (now (mates .exit)) (now (tos .exit)) (now (blocked .exit)) ⌝ }
 {
-    offers::block(row, starts, ends, head, next, levels, u, blocked);
+    offers::block(starts, ends, head, next, levels, u, blocked);
     mates[u] = v as u16;
     mates[v] = u as u16;
     tos[v] = 1;
@@ -76,7 +73,6 @@ fn join(
 
 // Visits u: pairs it with the successor that makes the widest offer, where there is one. Answers how many pairs that adds.
 fn visit(
-    row: &[u16],
     starts: &[u16],
     ends: &[u16],
     widths: &[u32],
@@ -90,20 +86,19 @@ fn visit(
     tos: &mut [u8; 512],
     blocked: &mut [u8; 512],
 ) -> usize
-    requires { ⌜ Simple (now row) (now starts) (now ends) (now widths) ⌝ }
-    requires { ⌜ Linked (leave (arcs (now row) (now starts) (now ends))) (length (now starts)) (now head) (now next) ⌝ }
+    requires { ⌜ Simple (now starts) (now ends) (now widths) ⌝ }
+    requires { ⌜ Linked (leave (joining (now starts) (now ends))) (length (now starts)) (now head) (now next) ⌝ }
     requires { ⌜ (u < 512) × ((c : ℕ) → getD (now costs) c 0 ≤ 33553920) ⌝ }
     requires { ⌜ Tall (now mates) (now tos) (now blocked) ⌝ }
-    ensures { λ r. ⌜ Stepped (now (row .entry)) (now (starts .entry)) (now (ends .entry)) (now (widths .entry)) (now (levels .entry)) (now (costs .entry)) bound u (now (mates .entry)) (now (tos .entry)) (now (blocked .entry)) (now (mates .exit)) (now (tos .exit)) (now (blocked .exit)) r ⌝ }
+    ensures { λ r. ⌜ Stepped (joining (now (starts .entry)) (now (ends .entry))) (now (starts .entry)) (now (ends .entry)) (now (widths .entry)) (now (levels .entry)) (now (costs .entry)) bound u (now (mates .entry)) (now (tos .entry)) (now (blocked .entry)) (now (mates .exit)) (now (tos .exit)) (now (blocked .exit)) r ⌝ }
 {
     if folds::wide(mates[u]) != u {
         return 0;
     }
-    if offers::stops(row, starts, ends, head, next, levels, tos, u) {
+    if offers::stops(starts, ends, head, next, levels, tos, u) {
         return 0;
     }
     let best = best_for(
-        row,
         starts,
         ends,
         widths,
@@ -120,19 +115,7 @@ fn visit(
         return 0;
     }
     let v = best.to;
-    join(
-        row,
-        starts,
-        ends,
-        head,
-        next,
-        levels,
-        u,
-        v,
-        mates,
-        tos,
-        blocked,
-    );
+    join(starts, ends, head, next, levels, u, v, mates, tos, blocked);
     1
 }
 
@@ -151,7 +134,6 @@ fn singles(mates: &mut [u16; 512])
 // Visits the clusters in topological order, by their levels. Answers how many pairs were made.
 fn pairs(
     costs: &[u32; 512],
-    row: &[u16],
     starts: &[u16],
     ends: &[u16],
     widths: &[u32],
@@ -163,12 +145,12 @@ fn pairs(
     bound: u32,
     mates: &mut [u16; 512],
 ) -> usize
-    requires { ⌜ Ready (graphOf (take g (now costs)) (now starts) (now ends) (now widths)) (now row) g ⌝ }
-    requires { ⌜ Weights g (now costs) × (now row ≡ identity g) × Simple (now row) (now starts) (now ends) (now widths) ⌝ }
-    requires { ⌜ Linked (leave (arcs (now row) (now starts) (now ends))) (length (now starts)) (now head) (now next) ⌝ }
-    requires { ⌜ Ordered (arcs (now row) (now starts) (now ends)) g (now order) ⌝ }
-    requires { ⌜ now levels ≡ over (levelsOf (arcs (now row) (now starts) (now ends)) g) (zeros 512) ⌝ }
-    ensures { λ r. ⌜ Matched (graphOf (take g (now (costs .entry))) (now (starts .entry)) (now (ends .entry)) (now (widths .entry))) bound (now (row .entry)) (now (mates .exit)) r ⌝ }
+    requires { ⌜ Ready (graphOf (take g (now costs)) (now starts) (now ends) (now widths)) (identity g) g ⌝ }
+    requires { ⌜ Weights g (now costs) × Simple (now starts) (now ends) (now widths) ⌝ }
+    requires { ⌜ Linked (leave (joining (now starts) (now ends))) (length (now starts)) (now head) (now next) ⌝ }
+    requires { ⌜ Ordered (joining (now starts) (now ends)) g (now order) ⌝ }
+    requires { ⌜ now levels ≡ over (levelsOf (joining (now starts) (now ends)) g) (zeros 512) ⌝ }
+    ensures { λ r. ⌜ Matched (graphOf (take g (now (costs .entry))) (now (starts .entry)) (now (ends .entry)) (now (widths .entry))) bound (identity g) (now (mates .exit)) r ⌝ }
 {
     // The ends of pairs, and what rule 2 keeps from becoming one.
     let mut tos = [0; 512];
@@ -179,7 +161,6 @@ fn pairs(
     while i < g {
         let u = folds::at16(order, i);
         count += visit(
-            row,
             starts,
             ends,
             widths,
@@ -201,7 +182,6 @@ fn pairs(
 // One round on the lists of a rung with g clusters: the mate of each cluster, its own number where it has none. Answers how many pairs there are.
 pub fn round(
     costs: &[u32; 512],
-    row: &[u16],
     starts: &[u16],
     ends: &[u16],
     widths: &[u32],
@@ -212,17 +192,16 @@ pub fn round(
     bound: u32,
     mates: &mut [u16; 512],
 ) -> usize
-    requires { ⌜ Ready (graphOf (take g (now costs)) (now starts) (now ends) (now widths)) (now row) g ⌝ }
-    requires { ⌜ Weights g (now costs) × (now row ≡ identity g) × Simple (now row) (now starts) (now ends) (now widths) ⌝ }
-    requires { ⌜ Linked (leave (arcs (now row) (now starts) (now ends))) (length (now starts)) (now head) (now next) ⌝ }
-    requires { ⌜ Ordered (arcs (now row) (now starts) (now ends)) g (now order) ⌝ }
-    ensures { λ r. ⌜ Matched (graphOf (take g (now (costs .entry))) (now (starts .entry)) (now (ends .entry)) (now (widths .entry))) bound (now (row .entry)) (now (mates .exit)) r ⌝ }
+    requires { ⌜ Ready (graphOf (take g (now costs)) (now starts) (now ends) (now widths)) (identity g) g ⌝ }
+    requires { ⌜ Weights g (now costs) × Simple (now starts) (now ends) (now widths) ⌝ }
+    requires { ⌜ Linked (leave (joining (now starts) (now ends))) (length (now starts)) (now head) (now next) ⌝ }
+    requires { ⌜ Ordered (joining (now starts) (now ends)) g (now order) ⌝ }
+    ensures { λ r. ⌜ Matched (graphOf (take g (now (costs .entry))) (now (starts .entry)) (now (ends .entry)) (now (widths .entry))) bound (identity g) (now (mates .exit)) r ⌝ }
 {
     let mut levels = [0; 512];
-    levels::sweep(row, starts, ends, head, next, order, g, &mut levels);
+    levels::sweep(starts, ends, head, next, order, g, &mut levels);
     pairs(
         costs,
-        row,
         starts,
         ends,
         widths,

@@ -16,13 +16,14 @@ use Rattle.folds.proofs.Cases.{by, either, eq-or-ne, both, both-i, not-yes, las
 use Rattle.folds.proofs.Searches.{any-i, any-e}
 use Rattle.graph.specs.Graph.{Graph, vertices, edges, via}
 use Rattle.graph.specs.Rows.{clusters}
-use Rattle.moves.specs.Move.{partSize, movedTo, partOf, leaves, pull, gainTo, Back, Onward, Candidate, Stays, Allowed}
+use Rattle.graph.specs.Table.{partSize}
+use Rattle.moves.specs.Move.{movedTo, partOf, leaves, pull, gainTo, Back, Onward, Candidate, Stays, Allowed}
 use Rattle.moves.specs.Pass.{lowered, raised, lowestNext, aboveBefore, stays, allows, tried, goesBack, target}
 use Rattle.moves.specs.Own.{Taken}
 use Rattle.moves.proofs.Signed.{less-gain, above-zero}
 
 -- the best of s and of f at the numbers below m that have p
-abbrev choose : (ℕ → Bool) → (ℕ → ℕ) → (ℕ → ℕ → ℕ) → ℕ → ℕ → ℕ
+abbrev pub choose : (ℕ → Bool) → (ℕ → ℕ) → (ℕ → ℕ → ℕ) → ℕ → ℕ → ℕ
 choose p f better s m = turns m (λ j t. pick (p j) (better t (f j)) t) s
 
 -- by any `better` that is one of the two, and no worse than either
@@ -42,7 +43,7 @@ module _ (p : ℕ → Bool) (f : ℕ → ℕ) (better : ℕ → ℕ → ℕ) (s 
       b = choose p f better s m
 
   module _ (R : ℕ → ℕ → Type 0) (trans : (a b c : ℕ) → R a b → R b c → R a c) (left : (a b : ℕ) → R (better a b) a) (right : (a b : ℕ) → R (better a b) b) where
-    best-of : (m j : ℕ) → j < m → p j ≡ true → R (choose p f better s m) (f j)
+    pub best-of : (m j : ℕ) → j < m → p j ≡ true → R (choose p f better s m) (f j)
     unfolding turns
     best-of zero j l q = absurd (not-suc-le-zero l)
     best-of (suc m) j l q =
@@ -125,7 +126,7 @@ module _ (G : Graph) (row parts : List ℕ) (h : ℕ) where
     abbrev pub Chosen : ℕ → Type 0
     Chosen t = (t ≡ partOf row parts h) ⊎ (Allowed G bound row parts h t × (ltZ (pos 0) (gainTo G row parts h t) ≡ true))
 
-    no-less : (t : ℕ) → Chosen t → pull G row parts h (partOf row parts h) ≤ pull G row parts h t
+    pub no-less : (t : ℕ) → Chosen t → pull G row parts h (partOf row parts h) ≤ pull G row parts h t
     unfolding gainTo
     no-less t c =
         let own = pull G row parts h (partOf row parts h) in

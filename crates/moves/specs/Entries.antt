@@ -5,10 +5,10 @@ use mathlib.Core.Bool.{true}
 use mathlib.Core.List.{List, [], _∷_}
 use lib.IntN.{ℤ, pos, _+ℤ_}
 use lib.Signed.{ltZ}
-use lib.ListN.{length, getD}
 use Rattle.folds.specs.Fold.{when}
-use Rattle.graph.specs.Graph.{Graph, vertices, edges, via, cutOf}
-use Rattle.moves.specs.Move.{place, partSize, movedTo, gainTo, Allowed}
+use Rattle.graph.specs.Graph.{Graph, cutOf}
+use Rattle.graph.specs.Table.{Good}
+use Rattle.moves.specs.Move.{movedTo, gainTo, Allowed}
 
 -- the rung at hand, and each vertex's part
 pub record State : Type 0 where
@@ -72,16 +72,7 @@ abbrev pub AllGain : Graph → (ℕ → List ℕ) → List Entry → State → T
 AllGain G rows [] s = Unit {0}
 AllGain G rows (e ∷ es) s = Gains G rows e s × AllGain G rows es (step rows e s)
 
--- what holds at the first cut and after each entry of a list
-pub record Good (G : Graph) (k bound : ℕ) (rows : ℕ → List ℕ) (top : ℕ) (s : State) : Type 0 where
-  -- a kept rung, and a part below k for each vertex
+-- what holds at the first cut and after each entry of a list: a kept rung, and a table that is good on its row
+pub record GoodAt (G : Graph) (k bound : ℕ) (rows : ℕ → List ℕ) (top : ℕ) (s : State) : Type 0 where
   pub kept : s .rung ≤ top
-  pub whole : length (s .parts) ≡ vertices G
-  pub below : (v : ℕ) → v < vertices G → getD (s .parts) v 0 < k
-  -- vertices of one cluster share a part
-  pub shared : (a b : ℕ) → a < vertices G → b < vertices G → getD (rows (s .rung)) a 0 ≡ getD (rows (s .rung)) b 0 → getD (s .parts) a 0 ≡ getD (s .parts) b 0
-  -- no edge goes from a later part to an earlier one
-  pub forward : (j : ℕ) → j < edges G → place (via (s .parts) (G .starts) j) ≤ place (via (s .parts) (G .ends) j)
-  -- some vertex lies in each part, and each is within the bound
-  pub filled : (u : ℕ) → u < k → (v : ℕ) × (v < vertices G) × (getD (s .parts) v 0 ≡ u)
-  pub within : (u : ℕ) → u < k → partSize G (s .parts) u ≤ bound
+  pub table : Good G k bound (rows (s .rung)) (s .parts)

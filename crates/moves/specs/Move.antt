@@ -8,16 +8,9 @@ use lib.Dec.{eqb}
 use lib.IntN.{ℤ, pos, _-ℤ_}
 use lib.ListN.{length, getD}
 use Rattle.folds.specs.Fold.{pick, when, sumTo, firstTo, listTo}
-use Rattle.graph.specs.Graph.{Graph, vertices, edges, via, partCost}
+use Rattle.graph.specs.Graph.{Graph, vertices, edges, via}
 use Rattle.graph.specs.Rows.{clusters}
-
--- where part u comes in the running order: today its number (document 01: later if its number is higher)
-unfoldable pub place : ℕ → ℕ
-place u = u
-
--- the size of part u that is compared with the bound: today its cost
-unfoldable pub partSize : Graph → List ℕ → ℕ → ℕ
-partSize G parts u = partCost (G .costs) parts u
+use Rattle.graph.specs.Table.{partSize}
 
 -- the table in which the vertices of cluster h have the part t
 unfoldable pub movedTo : List ℕ → ℕ → ℕ → List ℕ → List ℕ

@@ -31,13 +31,13 @@ module _ (G : Graph) (k bound : ℕ) where
   turnMoves row (suc i) s = turnMoves row i s ++ visitMoves row i (turns i (visited G k bound row) s)
 
   unfoldable pub passMoves : List ℕ → Tally → List Entry
-  passMoves row s = turnMoves row (clusters row) s
+  passMoves row s = turnMoves row (clusters row) (tallyOf (s .parts) (s .moves))
 
   -- pass after pass, until one moves nothing
   unfoldable pub repeatedMoves : List ℕ → ℕ → Tally → List Entry
   repeatedMoves row zero s = []
   repeatedMoves row (suc fuel) s =
-      let all = passMoves row s ++ repeatedMoves row fuel (passOf G k bound row s) in pick (eqb (passOf G k bound row s .moves) (s .moves)) [] all
+      let rest = repeatedMoves row fuel (passOf G k bound row s) in passMoves row s ++ pick (passOf G k bound row s .moved) rest []
 
   unfoldable pub movesOn : List ℕ → Tally → List Entry
   movesOn row s = repeatedMoves row (passes G (s .parts)) s

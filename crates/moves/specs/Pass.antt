@@ -1,6 +1,6 @@
 -- The passes: what a visit of a cluster does, a pass, passes until one moves nothing, and down the rungs (document 01, "Moves").
 use Prim.Native.Nat.{ℕ, zero, suc, _+_, _-_, min, max}
-use mathlib.Core.Bool.{Bool, not, _&&_}
+use mathlib.Core.Bool.{Bool, true, false, not, _&&_}
 use mathlib.Core.List.{List}
 use lib.Dec.{eqb, ltb, leb}
 use lib.Signed.{ltZ}
@@ -8,7 +8,8 @@ use lib.ListN.{getD}
 use Rattle.folds.specs.Fold.{pick, anyTo, turns}
 use Rattle.graph.specs.Graph.{Graph, vertices, edges, via, cutOf}
 use Rattle.graph.specs.Rows.{clusters}
-use Rattle.moves.specs.Move.{partSize, movedTo, partOf, leaves, gainTo}
+use Rattle.graph.specs.Table.{partSize}
+use Rattle.moves.specs.Move.{movedTo, partOf, leaves, gainTo}
 
 -- s, and the part at the far end of edge j where that edge leaves h
 unfoldable pub lowered : List ℕ → List ℕ → List ℕ → List ℕ → ℕ → ℕ → ℕ → ℕ
@@ -48,24 +49,27 @@ target G k bound row parts h =
     let low = lowestNext G k row parts h in
     tried G bound row parts h (ltb (partOf row parts h) low && ltb low k) low (goesBack G bound row parts h)
 
--- a table, and the moves made so far
+-- a table, the moves counted so far, and whether the pass at hand has moved something
 pub record Tally : Type 0 where
   pub parts : List ℕ
   pub moves : ℕ
+  pub moved : Bool
 
+-- before a pass
 abbrev pub tallyOf : List ℕ → ℕ → Tally
-tallyOf parts moves = record { parts = parts; moves = moves }
+tallyOf parts moves = record { parts = parts; moves = moves; moved = false }
 
 -- a visit of cluster h
 unfoldable pub settledAt : List ℕ → ℕ → ℕ → Tally → Tally
-settledAt row h t s = pick (eqb t (partOf row (s .parts) h)) s (tallyOf (movedTo row h t (s .parts)) (s .moves + 1))
+settledAt row h t s =
+    pick (eqb t (partOf row (s .parts) h)) s (record { parts = movedTo row h t (s .parts); moves = s .moves + 1; moved = true })
 
 unfoldable pub visited : Graph → ℕ → ℕ → List ℕ → ℕ → Tally → Tally
 visited G k bound row h s = settledAt row h (target G k bound row (s .parts) h) s
 
 -- document 01: a pass visits groups in number order
 unfoldable pub passOf : Graph → ℕ → ℕ → List ℕ → Tally → Tally
-passOf G k bound row s = turns (clusters row) (visited G k bound row) s
+passOf G k bound row s = turns (clusters row) (visited G k bound row) (tallyOf (s .parts) (s .moves))
 
 -- what each move lowers, and so how many passes can move something: today the cut
 unfoldable pub measure : Graph → List ℕ → ℕ
@@ -79,7 +83,7 @@ passes G parts = suc (measure G parts)
 unfoldable pub repeated : Graph → ℕ → ℕ → List ℕ → ℕ → Tally → Tally
 repeated G k bound row zero s = s
 repeated G k bound row (suc fuel) s =
-    let next = repeated G k bound row fuel (passOf G k bound row s) in pick (eqb (passOf G k bound row s .moves) (s .moves)) s next
+    let next = repeated G k bound row fuel (passOf G k bound row s) in pick (passOf G k bound row s .moved) next (passOf G k bound row s)
 
 unfoldable pub refinedOn : Graph → ℕ → ℕ → List ℕ → Tally → Tally
 refinedOn G k bound row s = repeated G k bound row (passes G (s .parts)) s

@@ -136,6 +136,10 @@ module _ (A : Arcs) (f : ℕ → ℕ) (u : ℕ) {m : ℕ} {head next : List ℕ}
       either (B .is) (λ (g, p, q). rw (p, q) (widest-wider o l eb lb ew g W))
       (λ s. either s (λ (e, g, p, q). rw (p, q) (widest-lower o l eb lb ew e g W)) (λ (g, h, p, q). rw (p, q) (widest-keep o l eb ew g h W)))
 
+-- an offer of at most w does not win where w does not
+pub better-kept : {w o b width to : ℕ} → o ≤ w → (w ≤ width) × (w ≡ width → to ≤ b) → Better width to o b width to
+better-kept l (g, h) = record { is = inr (inr (omega arith, λ e. h (omega arith), refl, refl)) }
+
 -- blocking
 module _ (A : Arcs) (levels : List ℕ) (u : ℕ) {m : ℕ} {head next : List ℕ} (L : Linked (leave A) m head next) where
   pub blocking-none : u < 512 → {old : List ℕ} → length old ≡ 512 → Blocking A levels u (getD head u 0) old old
@@ -215,6 +219,18 @@ near-no a b e t = let q : a ≡ false = sym e ∙ t in rw q
 module _ (levels mates blocked costs : List ℕ) (bound u b w total : ℕ) where
   abbrev O : ℕ
   O = offerIn levels mates blocked costs bound u b w total
+
+  -- the width of the edge, or 0
+  pub offer-le : O ≤ w
+  unfolding offerIn
+  offer-le = go (eqb (getD mates b 0) b) (eqb (getD blocked b 0) 0) (ltb bound (getD costs u 0 + getD costs b 0)) (nextIn levels u b || eqb w total)
+    where
+      go : (s t d n : Bool) → pick s (pick t (pick d 0 (pick n w 0)) 0) 0 ≤ w
+      go false t d n = omega arith
+      go true false d n = omega arith
+      go true true true n = omega arith
+      go true true false true = omega arith
+      go true true false false = omega arith
 
   pub offer-mated : {x : ℕ} → x ≡ getD mates b 0 → (x ≡ b → ⊥) → 0 ≡ O
   unfolding offerIn

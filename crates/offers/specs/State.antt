@@ -1,14 +1,14 @@
 -- What the loops over the edges of a cluster do to the arrays of a round.
 use Prim.Native.Nat.{ℕ, _+_, _*_, _≤_, _<_}
 use mathlib.Core.Path.{_≡_}
-use mathlib.Core.Bool.{Bool, true, not, _&&_, _||_}
+use mathlib.Core.Bool.{Bool, true, false, not, _&&_, _||_}
 use mathlib.Core.Logic.{_⊎_}
 use mathlib.Core.List.{List}
 use lib.Dec.{eqb, ltb}
 use lib.ListN.{length, getD, set}
 use Rattle.folds.specs.Fold.{pick, when, sumTo}
-use Rattle.graph.specs.Graph.{Arcs, arcs, Edge, crossing}
-use Rattle.graph.specs.Links.{Joins, leave}
+use Rattle.graph.specs.Graph.{Arcs, joining, Edge, crossing}
+use Rattle.graph.specs.Links.{Ended, leave}
 use Rattle.graph.specs.Coarse.{sent, Narrow}
 
 -- what edge j sends from u to any other
@@ -19,12 +19,12 @@ leaves A widths u j = when (eqb (A .from j) u) (crossing A widths j)
 abbrev pub Single : Arcs → Type 0
 Single A = (i j : ℕ) → i < A .count → j < A .count → A .from i ≡ A .from j → A .to i ≡ A .to j → i ≡ j
 
--- edges between the clusters of a row, no two from one to the same, and their widths
-pub record Simple (row starts ends widths : List ℕ) : Type 0 where
-  pub joins : Joins row starts ends
+-- edges between clusters, no two from one to the same, and their widths
+pub record Simple (starts ends widths : List ℕ) : Type 0 where
+  pub joins : Ended starts ends
   pub same : length widths ≡ length starts
   pub narrow : Narrow widths
-  pub single : Single (arcs row starts ends)
+  pub single : Single (joining starts ends)
 
 -- the level of v is one above that of u, by an array of levels
 unfoldable pub nextIn : List ℕ → ℕ → ℕ → Bool
@@ -54,6 +54,11 @@ pub record Widest (A : Arcs) (f : ℕ → ℕ) (u j width to : ℕ) : Type 0 whe
   pub top : (i : ℕ) → i < j → leave A i ≡ u → f (A .to i) ≤ width
   pub low : (i : ℕ) → i < j → leave A i ≡ u → f (A .to i) ≡ width → (width ≡ 0) ⊎ (to ≤ A .to i)
   pub hit : (width ≡ 0) ⊎ ((f to ≡ width) × (to < 512))
+
+-- an offer of w by b wins over one of width by to: it is wider, or as wide and b is lower
+pub record Wins (width to w b : ℕ) (r : Bool) : Type 0 where
+  pub yes : r ≡ true → (width < w) ⊎ ((w ≡ width) × (b < to))
+  pub no : r ≡ false → (w ≤ width) × (w ≡ width → to ≤ b)
 
 -- (width′, to′) is the better of (w, b) and (width, to): the wider, or of two as wide the lower
 pub record Better (width to w b width′ to′ : ℕ) : Type 0 where

@@ -5,14 +5,13 @@ ghost use lib.Dec.{eqb};
 ghost use Prim.Native.Nat.{ℕ, _+_, _*_, _<_, _≤_};
 ghost use lib.ListN.{length, getD};
 ghost use Rattle.folds.specs.Fold.{pick, sumTo, anyTo};
-ghost use Rattle.graph.specs.Graph.{arcs};
-ghost use Rattle.graph.specs.Links.{Linked, Joins, leave};
+ghost use Rattle.graph.specs.Graph.{joining};
+ghost use Rattle.graph.specs.Links.{Linked, Ended, leave};
 ghost use Rattle.graph.specs.Coarse.{Narrow};
-ghost use Rattle.offers.specs.State.{leaves, Single, nextIn, halts, haltsAt, offerIn, offerOf, Widest, Better, blockedOf, Blocking};
+ghost use Rattle.offers.specs.State.{leaves, Single, nextIn, halts, haltsAt, offerIn, offerOf, Widest, Wins, Better, blockedOf, Blocking};
 
 // The width of all edges that leave u.
 pub fn total(
-    row: &[u16],
     starts: &[u16],
     ends: &[u16],
     widths: &[u32],
@@ -20,10 +19,10 @@ pub fn total(
     next: &[u16; 1024],
     u: usize,
 ) -> u32
-    requires { ⌜ Joins (now row) (now starts) (now ends) ⌝ }
-    requires { ⌜ Linked (leave (arcs (now row) (now starts) (now ends))) (length (now starts)) (now head) (now next) ⌝ }
+    requires { ⌜ Ended (now starts) (now ends) ⌝ }
+    requires { ⌜ Linked (leave (joining (now starts) (now ends))) (length (now starts)) (now head) (now next) ⌝ }
     requires { ⌜ (u < 512) × (length (now widths) ≡ length (now starts)) × Narrow (now widths) ⌝ }
-    ensures { λ r. ⌜ r ≡ sumTo (length (now (starts .entry))) (leaves (arcs (now (row .entry)) (now (starts .entry)) (now (ends .entry))) (now (widths .entry)) u) ⌝ }
+    ensures { λ r. ⌜ r ≡ sumTo (length (now (starts .entry))) (leaves (joining (now (starts .entry)) (now (ends .entry))) (now (widths .entry)) u) ⌝ }
 {
     let m = starts.len();
     let mut sum: u32 = 0;
@@ -50,7 +49,6 @@ fn is_next(levels: &[u16; 512], u: usize, v: usize) -> bool
 
 // Whether edge j of u goes to the end of a pair, on the next level.
 fn halts_at(
-    row: &[u16],
     starts: &[u16],
     ends: &[u16],
     levels: &[u16; 512],
@@ -58,11 +56,11 @@ fn halts_at(
     u: usize,
     j: usize,
 ) -> bool
-    requires { ⌜ Joins (now row) (now starts) (now ends) ⌝ }
+    requires { ⌜ Ended (now starts) (now ends) ⌝ }
     requires { ⌜ (u < 512) × (j < length (now starts)) ⌝ }
-    ensures { λ r. ⌜ r ≡ halts (arcs (now (row .entry)) (now (starts .entry)) (now (ends .entry))) (now (levels .entry)) (now (tos .entry)) u j ⌝ }
+    ensures { λ r. ⌜ r ≡ halts (joining (now (starts .entry)) (now (ends .entry))) (now (levels .entry)) (now (tos .entry)) u j ⌝ }
 {
-    let b = graph::cluster(row, ends, j);
+    let b = graph::end_at(ends, j);
     if b == u {
         return false;
     }
@@ -74,7 +72,6 @@ fn halts_at(
 
 // Whether some edge of u goes to the end of a pair, on the next level: then no pair may begin at u.
 pub fn stops(
-    row: &[u16],
     starts: &[u16],
     ends: &[u16],
     head: &[u16; 513],
@@ -83,15 +80,15 @@ pub fn stops(
     tos: &[u8; 512],
     u: usize,
 ) -> bool
-    requires { ⌜ Joins (now row) (now starts) (now ends) ⌝ }
-    requires { ⌜ Linked (leave (arcs (now row) (now starts) (now ends))) (length (now starts)) (now head) (now next) ⌝ }
+    requires { ⌜ Ended (now starts) (now ends) ⌝ }
+    requires { ⌜ Linked (leave (joining (now starts) (now ends))) (length (now starts)) (now head) (now next) ⌝ }
     requires { ⌜ u < 512 ⌝ }
-    ensures { λ r. ⌜ r ≡ anyTo (length (now (starts .entry))) (haltsAt (arcs (now (row .entry)) (now (starts .entry)) (now (ends .entry))) (now (levels .entry)) (now (tos .entry)) u) ⌝ }
+    ensures { λ r. ⌜ r ≡ anyTo (length (now (starts .entry))) (haltsAt (joining (now (starts .entry)) (now (ends .entry))) (now (levels .entry)) (now (tos .entry)) u) ⌝ }
 {
     let m = starts.len();
     let mut j = folds::wide(head[u]);
     while j < m {
-        if halts_at(row, starts, ends, levels, tos, u, j) {
+        if halts_at(starts, ends, levels, tos, u, j) {
             return true;
         }
         j = folds::wide(next[j]);
@@ -147,24 +144,55 @@ pub struct Best {
     pub to: usize,
 }
 
-// The wider of two offers, or of two as wide that of the lower cluster.
+// Whether an offer of w by b is wider than the best, or as wide and that of a lower cluster.
+fn wins(best: Best, w: u32, b: usize) -> bool
+    ensures { λ r. ⌜ Wins (best .width) (best .to) w b r ⌝ }
+{
+    if best.width < w {
+        return true;
+    }
+    if w < best.width {
+        return false;
+    }
+    b < best.to
+}
+
+// The better of two offers.
 fn better(best: Best, w: u32, b: usize) -> Best
     ensures { λ r. ⌜ Better (best .width) (best .to) w b (r .width) (r .to) ⌝ }
 {
-    if best.width < w {
+    if wins(best, w, b) {
         return Best { width: w, to: b };
     }
-    if w == best.width {
-        if b < best.to {
-            return Best { width: w, to: b };
-        }
+    best
+}
+
+// The better of the best offer and that of b over an edge of the width w: where not even all of w would win, the offer is not worked.
+fn improve(
+    best: Best,
+    levels: &[u16; 512],
+    mates: &[u16; 512],
+    blocked: &[u8; 512],
+    costs: &[u32; 512],
+    bound: u32,
+    u: usize,
+    b: usize,
+    w: u32,
+    total: u32,
+) -> Best
+    requires { ⌜ (u < 512) × (b < 512) ⌝ }
+    requires { ⌜ ((c : ℕ) → getD (now costs) c 0 ≤ 33553920) ⌝ }
+    ensures { λ r. ⌜ Better (best .width) (best .to) (offerIn (now (levels .entry)) (now (mates .entry)) (now (blocked .entry)) (now (costs .entry)) bound u b w total) b (r .width) (r .to) ⌝ }
+{
+    if wins(best, w, b) {
+        let offered = offer(levels, mates, blocked, costs, bound, u, b, w, total);
+        return better(best, offered, b);
     }
     best
 }
 
 // The widest offer to u, of the lowest cluster that makes it.
 pub fn choose(
-    row: &[u16],
     starts: &[u16],
     ends: &[u16],
     widths: &[u32],
@@ -178,20 +206,30 @@ pub fn choose(
     u: usize,
     total: u32,
 ) -> Best
-    requires { ⌜ Joins (now row) (now starts) (now ends) ⌝ }
-    requires { ⌜ Linked (leave (arcs (now row) (now starts) (now ends))) (length (now starts)) (now head) (now next) ⌝ }
-    requires { ⌜ (u < 512) × (length (now widths) ≡ length (now starts)) × Single (arcs (now row) (now starts) (now ends)) ⌝ }
+    requires { ⌜ Ended (now starts) (now ends) ⌝ }
+    requires { ⌜ Linked (leave (joining (now starts) (now ends))) (length (now starts)) (now head) (now next) ⌝ }
+    requires { ⌜ (u < 512) × (length (now widths) ≡ length (now starts)) × Single (joining (now starts) (now ends)) ⌝ }
     requires { ⌜ ((c : ℕ) → getD (now costs) c 0 ≤ 33553920) ⌝ }
-    requires { ⌜ total ≡ sumTo (length (now starts)) (leaves (arcs (now row) (now starts) (now ends)) (now widths) u) ⌝ }
-    ensures { λ r. ⌜ Widest (arcs (now (row .entry)) (now (starts .entry)) (now (ends .entry))) (offerOf (arcs (now (row .entry)) (now (starts .entry)) (now (ends .entry))) (now (widths .entry)) (now (levels .entry)) (now (mates .entry)) (now (blocked .entry)) (now (costs .entry)) bound u) u (length (now (starts .entry))) (r .width) (r .to) ⌝ }
+    requires { ⌜ total ≡ sumTo (length (now starts)) (leaves (joining (now starts) (now ends)) (now widths) u) ⌝ }
+    ensures { λ r. ⌜ Widest (joining (now (starts .entry)) (now (ends .entry))) (offerOf (joining (now (starts .entry)) (now (ends .entry))) (now (widths .entry)) (now (levels .entry)) (now (mates .entry)) (now (blocked .entry)) (now (costs .entry)) bound u) u (length (now (starts .entry))) (r .width) (r .to) ⌝ }
 {
     let m = starts.len();
     let mut best = Best { width: 0, to: 512 };
     let mut j = folds::wide(head[u]);
     while j < m {
-        let b = graph::cluster(row, ends, j);
-        let w = offer(levels, mates, blocked, costs, bound, u, b, widths[j], total);
-        best = better(best, w, b);
+        let b = graph::end_at(ends, j);
+        best = improve(
+            best,
+            levels,
+            mates,
+            blocked,
+            costs,
+            bound,
+            u,
+            b,
+            widths[j],
+            total,
+        );
         j = folds::wide(next[j]);
     }
     best
@@ -212,7 +250,6 @@ fn mark_next(levels: &[u16; 512], u: usize, b: usize, blocked: &mut [u8; 512])
 
 // Blocks what the edges of u go to on the level after u's.
 pub fn block(
-    row: &[u16],
     starts: &[u16],
     ends: &[u16],
     head: &[u16; 513],
@@ -221,15 +258,15 @@ pub fn block(
     u: usize,
     blocked: &mut [u8; 512],
 )
-    requires { ⌜ Joins (now row) (now starts) (now ends) ⌝ }
-    requires { ⌜ Linked (leave (arcs (now row) (now starts) (now ends))) (length (now starts)) (now head) (now next) ⌝ }
+    requires { ⌜ Ended (now starts) (now ends) ⌝ }
+    requires { ⌜ Linked (leave (joining (now starts) (now ends))) (length (now starts)) (now head) (now next) ⌝ }
     requires { ⌜ (u < 512) × (length (now blocked) ≡ 512) ⌝ }
-    ensures { λ _. ⌜ Blocking (arcs (now (row .entry)) (now (starts .entry)) (now (ends .entry))) (now (levels .entry)) u (length (now (starts .entry))) (now (blocked .entry)) (now (blocked .exit)) ⌝ }
+    ensures { λ _. ⌜ Blocking (joining (now (starts .entry)) (now (ends .entry))) (now (levels .entry)) u (length (now (starts .entry))) (now (blocked .entry)) (now (blocked .exit)) ⌝ }
 {
     let m = starts.len();
     let mut j = folds::wide(head[u]);
     while j < m {
-        let b = graph::cluster(row, ends, j);
+        let b = graph::end_at(ends, j);
         mark_next(levels, u, b, blocked);
         j = folds::wide(next[j]);
     }

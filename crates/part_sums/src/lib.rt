@@ -1,7 +1,7 @@
 // The record of part sums: made of a table, asked whether a move is allowed, and moved.
 ghost use mathlib.Core.Path.{_≡_};
 ghost use Prim.Native.Nat.{_<_};
-ghost use Rattle.counts.specs.Totals.{Keyed};
+ghost use Rattle.graph.specs.Totals.{Keyed};
 ghost use Rattle.part_sums.specs.Sums.{SumsOf, sumsAllow, Shifts, Shifted};
 
 // The cost of each of up to 16 parts, and how many parts there are.
@@ -17,7 +17,7 @@ impl PartSums {
         ensures { λ r. ⌜ SumsOf (now (costs .entry)) (now (parts .entry)) k r ⌝ }
     {
         let mut sums = [0u32; 16];
-        counts::sum_costs(parts, costs, &mut sums);
+        graph::sum_costs(parts, costs, &mut sums);
         PartSums {
             sums: sums,
             count: k,

@@ -15,6 +15,7 @@ use Rattle.folds.proofs.Slices.{take-over, length-over}
 use Rattle.graph.specs.Walk.{Acyclic}
 use Rattle.graph.specs.Graph.{Graph, vertices, identity, seen, Edge, cutOf}
 use Rattle.graph.specs.Rows.{clusters, Hierarchy}
+use Rattle.graph.specs.Table.{placeAt, Good}
 use Rattle.graph.proofs.Walks.{rank-law}
 use Rattle.graph.proofs.Edges.{edge-arc, edge-other, row-inside}
 use Rattle.graph.proofs.Rows.{few-clusters}
@@ -22,11 +23,11 @@ use Rattle.topology.specs.Order.{orderOf}
 use Rattle.topology.proofs.Orders.{order-all, place-at, order-rises}
 use Rattle.topology.proofs.Sorted.{order-sorted}
 use Rattle.validity.specs.Cause.{Answer, refusal, answered}
-use Rattle.validity.specs.Check.{Valid}
+use Rattle.validity.specs.Check.{mostVertices, Valid}
 use Rattle.validity.specs.Sound.{Sound}
 use Rattle.validity.specs.declared.Cause.the-variants.{Uncut}
 use Rattle.validity.specs.declared.Verdict.the-variants.{Passed}
-use Rattle.validity.proofs.Passed.{valid-sound, number-passed, passed-valid}
+use Rattle.validity.proofs.Passed.{valid-sound, valid-most, number-passed, passed-valid, passed-few}
 use Rattle.inspection.specs.Table.{Fine}
 use Rattle.inspection.specs.Inspect.{inspectOf, orderAfter}
 use Rattle.inspection.specs.Inspect as inspect
@@ -39,13 +40,12 @@ use Rattle.hierarchy.specs.Claim.{OwnRounds}
 use Rattle.hierarchy.proofs.Own.{own-rounds, rows-hierarchy}
 use Rattle.initial.specs.Initial.{Chosen, found, uncut, LeastCut, Divides}
 use Rattle.initial.proofs.Claims.{initial-least, none-exactly, initial-good}
-use Rattle.moves.specs.Entries.{stateOf, Entry, down, after, AllAllowed, cutAt, gain, gains, Good}
+use Rattle.moves.specs.Entries.{stateOf, Entry, down, after, AllAllowed, cutAt, gain, gains, GoodAt}
 use Rattle.moves.specs.Pass.{Tally, refined}
 use Rattle.moves.specs.Own.{ownMoves, Took}
-use Rattle.moves.specs.Move.{place, partSize}
 use Rattle.moves.proofs.Claims.{moves-law, own-moves, few-moves, refined-good}
 use Rattle.partition.specs.Phases.{Result, nothing, parted, firstOf, refinedFrom, resultOf}
-use Rattle.partition.specs.Split.{roomFor, verdictOf, splitOf, tableAfter, ladderLeft}
+use Rattle.partition.specs.Split.{roomFor, verdictOf, splitOf, tableAfter, rowsLeft}
 use Rattle.partition.specs.Claim.{Answers, Uncuttable, Ordered}
 use Rattle.partition.proofs.Rows.{good-start}
 
@@ -60,8 +60,8 @@ module _ (G : Graph) (k bound : ℕ) (valid : Valid G k bound) where
   pub split-rounds : (rs : List Round) → AllKeep G (identity (vertices G)) rs → (i : ℕ) → Acyclic (Edge (seen G (rowAfter (identity (vertices G)) (take i rs))))
   split-rounds = rounds-acyclic G (sound .proper .formed) (sound .acyclic)
 
-  -- the split's own rounds are such a list: it leaves the ladder that the split leaves
-  pub split-own-rounds : (ladder : List ℕ) → (rs : List Round) × OwnRounds G k bound (ladderAfter G k bound ladder) rs
+  -- the split's own rounds are such a list: it leaves the rows that the split leaves
+  pub split-own-rounds : (rows : List ℕ) → (rs : List Round) × OwnRounds G k bound (ladderAfter G k bound rows) rs
   split-own-rounds = own-rounds G k bound (sound .proper .formed) (sound .acyclic)
 
   -- what the phases gave, taken apart
@@ -89,7 +89,7 @@ module _ (G : Graph) (k bound : ℕ) (valid : Valid G k bound) where
       rw (L .cuts) at L
 
   -- the first cut's table is good on its rung
-  first-good : {rung : ℕ} {first : List ℕ} {tally : Tally} → resultOf G k bound ≡ parted rung first tally → Good G k bound (rowOf G k bound) (keptOf G k bound) (stateOf rung first)
+  first-good : {rung : ℕ} {first : List ℕ} {tally : Tally} → resultOf G k bound ≡ parted rung first tally → GoodAt G k bound (rowOf G k bound) (keptOf G k bound) (stateOf rung first)
   unfolding firstOf
   first-good e = let (c, q, _) = first-found e in good-start (split-least e .kept) (initial-good (sound .proper) kept k bound q)
 
@@ -97,7 +97,7 @@ module _ (G : Graph) (k bound : ℕ) (valid : Valid G k bound) where
   -- entry no edge goes from a later part to an earlier one and no part is empty or over the bound, and with each entry the cut falls by its gain
   pub split-moves : {rung : ℕ} {first : List ℕ} {tally : Tally} → resultOf G k bound ≡ parted rung first tally
       → (es : List Entry) → AllAllowed G bound (rowOf G k bound) es (stateOf rung first)
-      → ((i : ℕ) → Good G k bound (rowOf G k bound) (keptOf G k bound) (after (rowOf G k bound) (take i es) (stateOf rung first)))
+      → ((i : ℕ) → GoodAt G k bound (rowOf G k bound) (keptOf G k bound) (after (rowOf G k bound) (take i es) (stateOf rung first)))
       × ((i : ℕ) → i < length es → pos (cutAt G (after (rowOf G k bound) (take i es) (stateOf rung first)))
       ≡ pos (cutAt G (after (rowOf G k bound) (take (suc i) es) (stateOf rung first))) +ℤ gain G (rowOf G k bound) (getD es i down) (after (rowOf G k bound) (take i es) (stateOf rung first)))
   split-moves e = moves-law G (sound .proper) k bound (rowOf G k bound) (keptOf G k bound) kept (stateOf _ _) (first-good e)
@@ -119,16 +119,16 @@ module _ (G : Graph) (k bound : ℕ) (valid : Valid G k bound) where
 
   -- AT THE END: the table answered is good on rung 0
   pub split-good : {rung : ℕ} {first : List ℕ} {tally : Tally} → resultOf G k bound ≡ parted rung first tally
-      → Good G k bound (rowOf G k bound) (keptOf G k bound) (stateOf 0 (tally .parts))
+      → GoodAt G k bound (rowOf G k bound) (keptOf G k bound) (stateOf 0 (tally .parts))
   split-good {rung} {first} e =
       let (c, _, t) = first-found e in
       rw t (refined-good G (sound .proper) k bound (rowOf G k bound) (keptOf G k bound) kept rung first (first-good e))
 
   -- the table answered is fine for inspection
   split-fine : {rung : ℕ} {first : List ℕ} {tally : Tally} → resultOf G k bound ≡ parted rung first tally → Fine G k bound (tally .parts)
-  unfolding place partSize
+  unfolding placeAt
   split-fine {tally = tally} e =
-      let I = split-good e in
+      let I = split-good e .table in
       record {
         named = I .below;
         filled = I .filled;
@@ -153,32 +153,32 @@ module _ (G : Graph) (k bound : ℕ) (valid : Valid G k bound) where
       record { all = all; each = λ c lc. place-at A g inside all c lc .1; rises = order-rises A g inside all }
 
   -- FROM THE ANSWER TO THE CLAIMS: with room for its tables, the split answers what the phases gave, or 9
-  module _ (table ladder : List ℕ) (lt : vertices G ≤ length table) (ll : 9 * vertices G ≤ length ladder) where
-    passes : verdictOf G k bound table ladder ≡ Passed
+  module _ (most : ℕ) (few : vertices G ≤ most) (table rows : List ℕ) (lt : vertices G ≤ length table) (ll : 9 * vertices G ≤ length rows) where
+    passes : verdictOf most G k bound table rows ≡ Passed
     unfolding verdictOf roomFor
-    passes = rw (le-leb _ _ lt, le-leb _ _ ll) valid
+    passes = rw (le-leb _ _ lt, le-leb _ _ ll) (valid-most most G k bound valid few)
 
-    answers-parted : {rung : ℕ} {first : List ℕ} {tally : Tally} → resultOf G k bound ≡ parted rung first tally → Answers G k bound table ladder rung first tally
-    unfolding splitOf tableAfter ladderLeft
+    answers-parted : {rung : ℕ} {first : List ℕ} {tally : Tally} → resultOf G k bound ≡ parted rung first tally → Answers most G k bound table rows rung first tally
+    unfolding splitOf tableAfter rowsLeft
     answers-parted e = record { result = e; answer = rw (passes, e); table-is = rw (passes, e); ladder-is = rw passes }
 
-    answers-nothing : resultOf G k bound ≡ nothing → Uncuttable G k bound table ladder
-    unfolding splitOf tableAfter ladderLeft
+    answers-nothing : resultOf G k bound ≡ nothing → Uncuttable most G k bound table rows
+    unfolding splitOf tableAfter rowsLeft
     answers-nothing e = record { result = e; answer = rw (passes, e); table-is = rw (passes, e); ladder-is = rw passes }
 
-    pub split-answers : Uncuttable G k bound table ladder ⊎ ((rung : ℕ) × (first : List ℕ) × (tally : Tally) × Answers G k bound table ladder rung first tally)
+    pub split-answers : Uncuttable most G k bound table rows ⊎ ((rung : ℕ) × (first : List ℕ) × (tally : Tally) × Answers most G k bound table rows rung first tally)
     split-answers = go (resultOf G k bound) refl
       where
-        go : (x : Result) → resultOf G k bound ≡ x → Uncuttable G k bound table ladder ⊎ ((rung : ℕ) × (first : List ℕ) × (tally : Tally) × Answers G k bound table ladder rung first tally)
+        go : (x : Result) → resultOf G k bound ≡ x → Uncuttable most G k bound table rows ⊎ ((rung : ℕ) × (first : List ℕ) × (tally : Tally) × Answers most G k bound table rows rung first tally)
         go nothing e = inl (answers-nothing e)
         go (parted rung first tally) e = inr (rung, first, tally, answers-parted e)
 
     -- 9 comes exactly when no kept rung has such a division
-    pub split-nine : (splitOf G k bound table ladder ≡ refusal Uncut 0) ↔ ((q : ℕ) → q ≤ keptOf G k bound → (d : List ℕ) → Divides G k bound (rowOf G k bound q) d → ⊥)
+    pub split-nine : (splitOf most G k bound table rows ≡ refusal Uncut 0) ↔ ((q : ℕ) → q ≤ keptOf G k bound → (d : List ℕ) → Divides G k bound (rowOf G k bound q) d → ⊥)
     unfolding resultOf firstOf
     split-nine = (λ e. none-exactly (sound .proper) kept k bound .0 (there e (firstOf G k bound) refl), λ h. answers-nothing (rw (none-exactly (sound .proper) kept k bound .1 h)) .answer)
       where
-        there : splitOf G k bound table ladder ≡ refusal Uncut 0 → (x : Chosen) → firstOf G k bound ≡ x → firstOf G k bound ≡ uncut
+        there : splitOf most G k bound table rows ≡ refusal Uncut 0 → (x : Chosen) → firstOf G k bound ≡ x → firstOf G k bound ≡ uncut
         there e uncut q = q
         there e (found r t c) q =
             let p : refinedFrom G k bound (firstOf G k bound) ≡ parted r t (refined G k bound (rowOf G k bound) r t) = rw q in
@@ -186,14 +186,14 @@ module _ (G : Graph) (k bound : ℕ) (valid : Valid G k bound) where
 
     -- inspection passes every table that the split writes, with the same cut and the start order 0, 1, .., k - 1
     pub split-inspects : {rung : ℕ} {first : List ℕ} {tally : Tally} → resultOf G k bound ≡ parted rung first tally → (order : List ℕ) → k ≤ length order
-        → (inspectOf G k bound (tableAfter G k bound table ladder) order ≡ answered (cutOf G (tally .parts) ∷ []))
-        × (orderAfter G k bound (tableAfter G k bound table ladder) order ≡ over (identity k) order)
-    unfolding inspectOf orderAfter inspect.verdictOf inspect.partsOf place
+        → (inspectOf G k bound (tableAfter most G k bound table rows) order ≡ answered (cutOf G (tally .parts) ∷ []))
+        × (orderAfter G k bound (tableAfter most G k bound table rows) order ≡ over (identity k) order)
+    unfolding inspectOf orderAfter inspect.verdictOf inspect.partsOf placeAt
     split-inspects {tally = tally} e order lo =
         rw (answers-parted e .table-is, take-over (tally .parts) table (vertices G) (I .whole), room, valid, fine-passed G k bound (tally .parts) (sound .proper) (split-fine e)) (refl, ap (λ (l : List ℕ). over l order) sorted)
       where
-        I : Good G k bound (rowOf G k bound) (keptOf G k bound) (stateOf 0 (tally .parts))
-        I = split-good e
+        I : Good G k bound (rowOf G k bound 0) (tally .parts)
+        I = split-good e .table
 
         room : (leb (vertices G) (length (over (tally .parts) table)) && leb k (length order)) ≡ true
         room = rw (length-over (tally .parts) table (omega (arith, I .whole)), le-leb _ _ lt) (le-leb _ _ lo)
@@ -202,14 +202,14 @@ module _ (G : Graph) (k bound : ℕ) (valid : Valid G k bound) where
         sorted = order-sorted (seen G (tally .parts)) k (λ j l. I .forward j l)
 
 -- WHAT A CALLER HAS: an answer of number 0 says that the graph was valid and there was room, and so all of the above
-pub split-answered : (G : Graph) (k bound : ℕ) (table ladder : List ℕ) → splitOf G k bound table ladder .number ≡ 0
-    → Valid G k bound × ((rung : ℕ) × (first : List ℕ) × (tally : Tally) × Answers G k bound table ladder rung first tally)
+pub split-answered : (most : ℕ) → most ≤ mostVertices → (G : Graph) (k bound : ℕ) (table rows : List ℕ) → splitOf most G k bound table rows .number ≡ 0
+    → Valid G k bound × ((rung : ℕ) × (first : List ℕ) × (tally : Tally) × Answers most G k bound table rows rung first tally)
 unfolding splitOf verdictOf roomFor
-split-answered G k bound table ladder e =
-    let passed = number-passed (verdictOf G k bound table ladder) _ e in
-    let (valid, room) = passed-valid 512 G k bound _ (omega arith) passed in
+split-answered most within G k bound table rows e =
+    let passed = number-passed (verdictOf most G k bound table rows) _ e in
+    let (valid, room) = passed-valid most G k bound _ within passed in
     let (a, b) = both (leb (vertices G) (length table)) _ room in (
       valid,
-      either (split-answers G k bound valid table ladder (leb-true _ _ a) (leb-true _ _ b))
+      either (split-answers G k bound valid most (passed-few most G k bound _ passed) table rows (leb-true _ _ a) (leb-true _ _ b))
           (λ u. let z : _≡_ {A = ℕ} 9 0 = sym (ap (λ (x : Answer). x .number) (u .answer)) ∙ e in absurd (omega arith)) (λ x. x),
     )

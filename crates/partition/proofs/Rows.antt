@@ -4,13 +4,11 @@ use mathlib.Core.Path.{_≡_, refl, ap}
 use mathlib.Core.List.{List}
 use native.Mathlib.Omega.{arith}
 use Rattle.graph.specs.Graph.{Graph}
+use Rattle.graph.specs.Table.{Good}
 use Rattle.division.specs.Division.{Pick}
 use Rattle.initial.specs.Initial.{highest, initialOf, chosenOf}
-use Rattle.initial.specs.Initial as initial
 use Rattle.moves.specs.Pass.{Tally, tallyOf, refinedBelow, refined}
-use Rattle.moves.specs.Entries.{stateOf}
-use Rattle.moves.specs.Move.{place, partSize}
-use Rattle.moves.specs.Entries as moves
+use Rattle.moves.specs.Entries.{stateOf, GoodAt}
 
 highest-ext : (f g : ℕ → Pick (List ℕ)) (n : ℕ) → ((r : ℕ) → r < n → f r ≡ g r) → highest f n ≡ highest g n
 unfolding highest
@@ -33,15 +31,5 @@ module _ (G : Graph) (k bound : ℕ) {rows rows′ : ℕ → List ℕ} where
 
 -- a table that is good on its row starts a list of moves
 module _ {G : Graph} {k bound : ℕ} {rows : ℕ → List ℕ} {top rung : ℕ} {parts : List ℕ} where
-  pub good-start : rung ≤ top → initial.Good G k bound (rows rung) parts → moves.Good G k bound rows top (stateOf rung parts)
-  unfolding place partSize
-  good-start l I =
-      record {
-        kept = l;
-        whole = I .whole;
-        below = I .below;
-        shared = I .shared;
-        forward = I .forward;
-        filled = I .filled;
-        within = I .within;
-      }
+  pub good-start : rung ≤ top → Good G k bound (rows rung) parts → GoodAt G k bound rows top (stateOf rung parts)
+  good-start l I = record { kept = l; table = I }

@@ -15,51 +15,61 @@ use Rattle.hierarchy.specs.Climb.{keptOf, ladderAfter}
 use Rattle.partition.specs.Phases.{Result, nothing, parted, resultOf}
 use Rattle.partition.specs.declared.Partitioned.{Partitioned}
 use Rattle.partition.specs.declared.Partitioned.the-variants.{Parted, Failed}
+use Rattle.moves.specs.Pass.{Tally}
+use Rattle.partition.specs.declared.Summary.{Summary}
 use Rattle.partition.specs.declared.Inner.{Inner}
 use Rattle.partition.specs.declared.Inner.the-variants.{Found, Nothing}
 
--- document 01's number and values of each answer: the cut, the rounds kept, the rung that was cut and the number of moves; or the refusal and its place
+-- document 01's values of a split: the cut, the rounds kept, the rung that was cut and the number of moves
+abbrev pub figures : Summary → List ℕ
+figures s = s .cut ∷ s .rounds ∷ s .rung ∷ s .moves ∷ []
+
+-- the number and the values of each answer
 abbrev pub answerOf : Partitioned → Answer
-answerOf (Parted cut rounds rung moves) = answered (cut ∷ rounds ∷ rung ∷ moves ∷ [])
+answerOf (Parted s) = answered (figures s)
 answerOf (Failed cause place) = refusal cause place
 
--- check 4: stage table under n, ladder under 9 × n
+-- check 4: stage table under n, rows under 9 × n
 unfoldable pub roomFor : ℕ → List ℕ → List ℕ → Bool
-roomFor n table ladder = leb n (length table) && leb (9 * n) (length ladder)
+roomFor n table rows = leb n (length table) && leb (9 * n) (length rows)
 
-unfoldable pub verdictOf : Graph → ℕ → ℕ → List ℕ → List ℕ → Verdict
-verdictOf G k bound table ladder = checked 512 G k bound (roomFor (vertices G) table ladder)
+-- checks 1 to 8, with at most so many vertices
+unfoldable pub verdictOf : ℕ → Graph → ℕ → ℕ → List ℕ → List ℕ → Verdict
+verdictOf most G k bound table rows = checked most G k bound (roomFor (vertices G) table rows)
+
+abbrev pub summaryOf : Graph → ℕ → ℕ → Tally → Summary
+summaryOf G kept rung tally = record { cut = cutOf G (tally .parts); rounds = kept; rung = rung; moves = tally .moves }
 
 -- the answer below the checks: 9 where no rung can be cut
 abbrev pub valuesOf : Graph → ℕ → Result → Answer
 valuesOf G kept nothing = refusal Uncut 0
-valuesOf G kept (parted rung first tally) = answered (cutOf G (tally .parts) ∷ kept ∷ rung ∷ tally .moves ∷ [])
+valuesOf G kept (parted rung first tally) = answered (figures (summaryOf G kept rung tally))
 
-unfoldable pub splitOf : Graph → ℕ → ℕ → List ℕ → List ℕ → Answer
-splitOf G k bound table ladder = ifPassed (verdictOf G k bound table ladder) (valuesOf G (keptOf G k bound) (resultOf G k bound)) refusal
+unfoldable pub splitOf : ℕ → Graph → ℕ → ℕ → List ℕ → List ℕ → Answer
+splitOf most G k bound table rows = ifPassed (verdictOf most G k bound table rows) (valuesOf G (keptOf G k bound) (resultOf G k bound)) refusal
 
 -- the stage table afterwards: a refusal leaves it, 9 too
 abbrev pub partsInto : Result → List ℕ → List ℕ
 partsInto nothing table = table
 partsInto (parted rung first tally) table = over (tally .parts) table
 
-unfoldable pub tableAfter : Graph → ℕ → ℕ → List ℕ → List ℕ → List ℕ
-tableAfter G k bound table ladder = ifPassed (verdictOf G k bound table ladder) (partsInto (resultOf G k bound) table) (λ cause place. table)
+unfoldable pub tableAfter : ℕ → Graph → ℕ → ℕ → List ℕ → List ℕ → List ℕ
+tableAfter most G k bound table rows = ifPassed (verdictOf most G k bound table rows) (partsInto (resultOf G k bound) table) (λ cause place. table)
 
--- the ladder afterwards: it holds its rows, also where no rung can be cut
-unfoldable pub ladderLeft : Graph → ℕ → ℕ → List ℕ → List ℕ → List ℕ
-ladderLeft G k bound table ladder = ifPassed (verdictOf G k bound table ladder) (ladderAfter G k bound ladder) (λ cause place. ladder)
+-- the rows afterwards: it holds its rows, also where no rung can be cut
+unfoldable pub rowsLeft : ℕ → Graph → ℕ → ℕ → List ℕ → List ℕ → List ℕ
+rowsLeft most G k bound table rows = ifPassed (verdictOf most G k bound table rows) (ladderAfter G k bound rows) (λ cause place. rows)
 
 -- the work below the checks, as code answers it
 abbrev pub innerOf : Graph → ℕ → Result → Inner
 innerOf G kept nothing = Nothing
-innerOf G kept (parted rung first tally) = Found (cutOf G (tally .parts)) kept rung (tally .moves)
+innerOf G kept (parted rung first tally) = Found (summaryOf G kept rung tally)
 
 abbrev pub answerBy : Inner → Answer
-answerBy (Found cut rounds rung moves) = answered (cut ∷ rounds ∷ rung ∷ moves ∷ [])
+answerBy (Found s) = answered (figures s)
 answerBy Nothing = refusal Uncut 0
 
-pub record Works (G : Graph) (k bound : ℕ) (table ladder table′ ladder′ : List ℕ) (r : Inner) : Type 0 where
+pub record Works (G : Graph) (k bound : ℕ) (table rows table′ rows′ : List ℕ) (r : Inner) : Type 0 where
   pub is : r ≡ innerOf G (keptOf G k bound) (resultOf G k bound)
   pub table-is : table′ ≡ partsInto (resultOf G k bound) table
-  pub ladder-is : ladder′ ≡ ladderAfter G k bound ladder
+  pub ladder-is : rows′ ≡ ladderAfter G k bound rows

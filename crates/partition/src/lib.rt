@@ -4,33 +4,41 @@ ghost use Prim.Native.Nat.{_*_, _≤_};
 ghost use lib.ListN.{length, take};
 ghost use lib.Dec.{leb};
 ghost use mathlib.Core.Bool.{_&&_};
-ghost use Rattle.graph.specs.Graph.{graphOf, identity, arcs};
+ghost use Rattle.graph.specs.Graph.{graphOf, identity, arcs, joining};
 ghost use Rattle.graph.specs.Links.{Linked, leave};
 ghost use Rattle.topology.specs.Order.{orderOf};
+ghost use Rattle.validity.specs.Check.{mostVertices};
 ghost use Rattle.validity.specs.Sound.{Sound};
-ghost use Rattle.partition.specs.Split.{answerOf, splitOf, tableAfter, ladderLeft, Works};
+ghost use Rattle.partition.specs.Split.{answerOf, splitOf, tableAfter, rowsLeft, Works};
 use initial::Initial;
 use validity::Cause;
 use validity::Verdict;
 
-// The cut, the rounds kept, the rung that was cut and the moves; or the refusal.
+// What a split tells: the cut, the rounds kept, the rung that was cut and the moves.
+pub struct Summary {
+    pub cut: u32,
+    pub rounds: usize,
+    pub rung: usize,
+    pub moves: usize,
+}
+
 pub enum Partitioned {
-    Parted(u32, usize, usize, usize),
+    Parted(Summary),
     Failed(Cause, usize),
 }
 
 // The answer of the work below the checks.
 pub enum Inner {
-    Found(u32, usize, usize, usize),
+    Found(Summary),
     Nothing,
 }
 
 // Whether the caller lends enough: an entry of the table for each vertex, and nine rows.
-fn enough(n: usize, table: usize, ladder: usize) -> bool
-    ensures { λ r. ⌜ r ≡ (leb n table && leb (9 * n) ladder) ⌝ }
+fn enough(n: usize, table: usize, rows: usize) -> bool
+    ensures { λ r. ⌜ r ≡ (leb n table && leb (9 * n) rows) ⌝ }
 {
     if n <= table {
-        return n <= ladder / 9;
+        return n <= rows / 9;
     }
     false
 }
@@ -47,18 +55,18 @@ fn phases(
     head: &mut [u16; 513],
     next: &mut [u16; 1024],
     table: &mut [u16],
-    ladder: &mut [u16],
+    rows: &mut [u16],
     froms: &mut [u16],
     tos: &mut [u16],
     wides: &mut [u32],
     orders: &mut [u16],
 ) -> Inner
     requires { ⌜ Sound (graphOf (now costs) (now starts) (now ends) (now widths)) k bound ⌝ }
-    requires { ⌜ (length (now costs) ≤ length (now table)) × (9 * length (now costs) ≤ length (now ladder)) ⌝ }
+    requires { ⌜ (length (now costs) ≤ length (now table)) × (9 * length (now costs) ≤ length (now rows)) ⌝ }
     requires { ⌜ (9 * length (now starts) ≤ length (now froms)) × (9 * length (now starts) ≤ length (now tos)) × (9 * length (now starts) ≤ length (now wides)) × (9 * length (now costs) ≤ length (now orders)) ⌝ }
     requires { ⌜ (take (length (now costs)) (now order) ≡ orderOf (arcs (identity (length (now costs))) (now starts) (now ends)) (length (now costs))) × (length (now order) ≡ 512) ⌝ }
-    requires { ⌜ Linked (leave (arcs (identity (length (now costs))) (now starts) (now ends))) (length (now starts)) (now head) (now next) ⌝ }
-    ensures { λ r. ⌜ Works (graphOf (now (costs .entry)) (now (starts .entry)) (now (ends .entry)) (now (widths .entry))) k bound (now (table .entry)) (now (ladder .entry)) (now (table .exit)) (now (ladder .exit)) r ⌝ }
+    requires { ⌜ Linked (leave (joining (now starts) (now ends))) (length (now starts)) (now head) (now next) ⌝ }
+    ensures { λ r. ⌜ Works (graphOf (now (costs .entry)) (now (starts .entry)) (now (ends .entry)) (now (widths .entry))) k bound (now (table .entry)) (now (rows .entry)) (now (table .exit)) (now (rows .exit)) r ⌝ }
 {
     let mut sizes = [0; 9];
     let rounds = hierarchy::build(
@@ -71,7 +79,7 @@ fn phases(
         order,
         head,
         next,
-        ladder,
+        rows,
         froms,
         tos,
         wides,
@@ -83,18 +91,20 @@ fn phases(
         starts,
         ends,
         widths,
-        ladder,
+        rows,
         orders,
         froms,
         tos,
         wides,
         &sizes,
+        head,
+        next,
         rounds,
         k,
         bound,
         table,
     );
-    let Initial::At(rung, _) = first else {
+    let Initial::At(rung, cut) = first else {
         return Inner::Nothing;
     };
     let last = refine::refine(
@@ -104,15 +114,23 @@ fn phases(
         widths,
         k,
         bound,
-        ladder,
+        rows,
         froms,
         tos,
         wides,
         &sizes,
+        head,
+        next,
         rung,
+        cut,
         table,
     );
-    Inner::Found(last.cut, rounds, rung, last.moves)
+    Inner::Found(Summary {
+        cut: last.cut,
+        rounds: rounds,
+        rung: rung,
+        moves: last.moves,
+    })
 }
 
 // The phases, on local arrays that are large enough.
@@ -127,13 +145,13 @@ fn partition(
     head: &mut [u16; 513],
     next: &mut [u16; 1024],
     table: &mut [u16],
-    ladder: &mut [u16],
+    rows: &mut [u16],
 ) -> Inner
     requires { ⌜ Sound (graphOf (now costs) (now starts) (now ends) (now widths)) k bound ⌝ }
-    requires { ⌜ (length (now costs) ≤ length (now table)) × (9 * length (now costs) ≤ length (now ladder)) ⌝ }
+    requires { ⌜ (length (now costs) ≤ length (now table)) × (9 * length (now costs) ≤ length (now rows)) ⌝ }
     requires { ⌜ (take (length (now costs)) (now order) ≡ orderOf (arcs (identity (length (now costs))) (now starts) (now ends)) (length (now costs))) × (length (now order) ≡ 512) ⌝ }
-    requires { ⌜ Linked (leave (arcs (identity (length (now costs))) (now starts) (now ends))) (length (now starts)) (now head) (now next) ⌝ }
-    ensures { λ r. ⌜ Works (graphOf (now (costs .entry)) (now (starts .entry)) (now (ends .entry)) (now (widths .entry))) k bound (now (table .entry)) (now (ladder .entry)) (now (table .exit)) (now (ladder .exit)) r ⌝ }
+    requires { ⌜ Linked (leave (joining (now starts) (now ends))) (length (now starts)) (now head) (now next) ⌝ }
+    ensures { λ r. ⌜ Works (graphOf (now (costs .entry)) (now (starts .entry)) (now (ends .entry)) (now (widths .entry))) k bound (now (table .entry)) (now (rows .entry)) (now (table .exit)) (now (rows .exit)) r ⌝ }
 {
     let mut orders = [0; 4608];
     // few edges: an array's length is what a call clears
@@ -152,7 +170,7 @@ fn partition(
             head,
             next,
             table,
-            ladder,
+            rows,
             &mut froms,
             &mut tos,
             &mut wides,
@@ -173,7 +191,7 @@ fn partition(
         head,
         next,
         table,
-        ladder,
+        rows,
         &mut froms,
         &mut tos,
         &mut wides,
@@ -181,8 +199,9 @@ fn partition(
     )
 }
 
-// Document 01, the split: checks 1 to 8, then the phases; 9 where no rung can be cut.
-pub fn split(
+// Checks 1 to 8 with at most `most` vertices, then the phases; 9 where no rung can be cut.
+pub fn split_within(
+    most: usize,
     costs: &[u16],
     starts: &[u16],
     ends: &[u16],
@@ -190,18 +209,19 @@ pub fn split(
     k: usize,
     bound: u32,
     table: &mut [u16],
-    ladder: &mut [u16],
+    rows: &mut [u16],
 ) -> Partitioned
-    ensures { λ r. ⌜ answerOf r ≡ splitOf (graphOf (now (costs .entry)) (now (starts .entry)) (now (ends .entry)) (now (widths .entry))) k bound (now (table .entry)) (now (ladder .entry)) ⌝ }
-    ensures { λ _. ⌜ now (table .exit) ≡ tableAfter (graphOf (now (costs .entry)) (now (starts .entry)) (now (ends .entry)) (now (widths .entry))) k bound (now (table .entry)) (now (ladder .entry)) ⌝ }
-    ensures { λ _. ⌜ now (ladder .exit) ≡ ladderLeft (graphOf (now (costs .entry)) (now (starts .entry)) (now (ends .entry)) (now (widths .entry))) k bound (now (table .entry)) (now (ladder .entry)) ⌝ }
+    requires { ⌜ most ≤ 512 ⌝ }
+    ensures { λ r. ⌜ answerOf r ≡ splitOf most (graphOf (now (costs .entry)) (now (starts .entry)) (now (ends .entry)) (now (widths .entry))) k bound (now (table .entry)) (now (rows .entry)) ⌝ }
+    ensures { λ _. ⌜ now (table .exit) ≡ tableAfter most (graphOf (now (costs .entry)) (now (starts .entry)) (now (ends .entry)) (now (widths .entry))) k bound (now (table .entry)) (now (rows .entry)) ⌝ }
+    ensures { λ _. ⌜ now (rows .exit) ≡ rowsLeft most (graphOf (now (costs .entry)) (now (starts .entry)) (now (ends .entry)) (now (widths .entry))) k bound (now (table .entry)) (now (rows .entry)) ⌝ }
 {
-    let room = enough(costs.len(), table.len(), ladder.len());
+    let room = enough(costs.len(), table.len(), rows.len());
     let mut order = [0u16; 512];
     let mut head = [0u16; 513];
     let mut next = [0u16; 1024];
     let checked = validity::check(
-        512,
+        most,
         costs,
         starts,
         ends,
@@ -227,10 +247,28 @@ pub fn split(
         &mut head,
         &mut next,
         table,
-        ladder,
+        rows,
     );
     match inner {
-        Inner::Found(cut, rounds, rung, moves) => Partitioned::Parted(cut, rounds, rung, moves),
+        Inner::Found(summary) => Partitioned::Parted(summary),
         Inner::Nothing => Partitioned::Failed(Cause::Uncut, 0),
     }
+}
+
+// Document 01, the split.
+pub fn split(
+    costs: &[u16],
+    starts: &[u16],
+    ends: &[u16],
+    widths: &[u16],
+    k: usize,
+    bound: u32,
+    table: &mut [u16],
+    rows: &mut [u16],
+) -> Partitioned
+    ensures { λ r. ⌜ answerOf r ≡ splitOf mostVertices (graphOf (now (costs .entry)) (now (starts .entry)) (now (ends .entry)) (now (widths .entry))) k bound (now (table .entry)) (now (rows .entry)) ⌝ }
+    ensures { λ _. ⌜ now (table .exit) ≡ tableAfter mostVertices (graphOf (now (costs .entry)) (now (starts .entry)) (now (ends .entry)) (now (widths .entry))) k bound (now (table .entry)) (now (rows .entry)) ⌝ }
+    ensures { λ _. ⌜ now (rows .exit) ≡ rowsLeft mostVertices (graphOf (now (costs .entry)) (now (starts .entry)) (now (ends .entry)) (now (widths .entry))) k bound (now (table .entry)) (now (rows .entry)) ⌝ }
+{
+    split_within(512, costs, starts, ends, widths, k, bound, table, rows)
 }

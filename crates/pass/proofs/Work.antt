@@ -14,9 +14,10 @@ use Rattle.folds.proofs.Loops.{turns-zero, turns-turn}
 use Rattle.visit.specs.Visit.{Placed, pullTo, Pulled}
 use Rattle.visit.specs.Known.{openTo, Known, Fresh}
 use Rattle.part_sums.specs.declared.PartSums.{PartSums}
+use Rattle.pass.specs.declared.Target.{Target}
 use Rattle.part_sums.specs.Sums.{sumsAllow, Shifts, shifted}
 use Rattle.part_sums.proofs.Sums.{allowed-shifts}
-use Rattle.pass.specs.Work.{betterOf, backOf, choiceOf, Chosen, Idle, Work, choiceAt, movedBy, worked, Goal, Done}
+use Rattle.pass.specs.Work.{betterOf, backOf, choiceOf, Chosen, Aims, Idle, Work, begun, choiceAt, gainAt, movedBy, worked, Paid, Goal, Done}
 
 module _ (f : ℕ → ℕ) (S : PartSums) (own cost bound : ℕ) where
   pub back-none : (high : ℕ) → high ≡ 0 → own ≡ backOf f S own cost bound high
@@ -55,6 +56,17 @@ module _ (f : ℕ → ℕ) (S : PartSums) (own cost bound : ℕ) where
   choice-allowed : (low high : ℕ) → (choiceOf f S own cost bound low high ≡ own → ⊥) → sumsAllow S own (choiceOf f S own cost bound low high) cost bound ≡ true
   unfolding choiceOf backOf
   choice-allowed low high n = better-allowed _ low _ (λ m. better-allowed _ (high - 1) own (λ z. absurd (z refl)) m) n
+
+  -- what is chosen is no less tied to the cluster than its own part
+  better-gains : (candidate : Bool) (t best : ℕ) → f own ≤ f best → f own ≤ f (betterOf f S own cost bound candidate t best)
+  unfolding betterOf
+  better-gains candidate t best l =
+      by (candidate && (ltb (f best) (f t) && sumsAllow S own t cost bound))
+      (λ e. let m = ltb-true (f best) (f t) (both (ltb (f best) (f t)) _ (both candidate _ e .1) .0) in rw e (omega arith)) (λ e. rw e l)
+
+  pub choice-gains : {low high r : ℕ} → Chosen f S own cost bound low high r → f own ≤ f r
+  unfolding choiceOf backOf
+  choice-gains {low} {high} C = rw (C .is) (better-gains _ low _ (better-gains _ (high - 1) own (omega arith)))
 
   -- where no candidate is allowed
   better-barred : (candidate : Bool) (t best : ℕ) → sumsAllow S own t cost bound ≡ false → betterOf f S own cost bound candidate t best ≡ best
@@ -108,10 +120,15 @@ module _ (f g : ℕ → ℕ) (S : PartSums) (own cost bound : ℕ) (same : (u : 
       better-ext (ltb own low && ltb low (S .count)) low _ (λ t. let m = ltb-true low (S .count) (both (ltb own low) _ t .1) in omega arith) l .0
       ∙ ap (λ (b : ℕ). betterOf g S own cost bound (ltb own low && ltb low (S .count)) low b) e
 
-pub choice-pulled : {froms tos widths table toward : List ℕ} {S : PartSums} {own cost bound low high h t : ℕ} → own < 16 → S .count ≤ 16
-    → Pulled froms tos widths table h toward → Chosen (λ u. getD toward u 0) S own cost bound low high t → Chosen (pullTo froms tos widths table h) S own cost bound low high t
-choice-pulled {toward = toward} {S} {own} {cost} {bound} {low} {high} lo lc P C =
-    record { is = C .is ∙ choice-ext (λ u. getD toward u 0) _ S own cost bound (P .is) low high lo lc; within = C .within }
+-- the same by the sums of a walk
+pub aims-pulled : {froms tos widths table toward : List ℕ} {S : PartSums} {own cost bound low high h t : ℕ} → own < 16 → S .count ≤ 16
+    → Pulled froms tos widths table h toward → Chosen (λ u. getD toward u 0) S own cost bound low high t
+    → Aims (pullTo froms tos widths table h) S own cost bound low high (record { part = t; gain = getD toward t 0 - getD toward own 0 })
+aims-pulled {toward = toward} {S} {own} {cost} {bound} {low} {high} {t = t} lo lc P C =
+    record {
+      chosen = record { is = C .is ∙ choice-ext (λ u. getD toward u 0) _ S own cost bound (P .is) low high lo lc; within = C .within };
+      gain-is = rw (P .is t (C .within), P .is own lo);
+    }
 
 pub placed-set : {table : List ℕ} (h t : ℕ) → Placed table → t < 16 → Placed (set table h t)
 placed-set {table} h t p l =
@@ -132,20 +149,21 @@ module _ (froms tos widths costs : List ℕ) (bound h : ℕ) where
       rw (← K .low-is h l n, ← K .high-is h l n) (closed-idle S _ _ bound _ _ (K .closed h l z) _)
 
   -- what is known of a cluster decides where it goes
-  pub goal-fresh : {own lo hi t : ℕ} {table low high marks : List ℕ} (S : PartSums) → h < 512 → Read table h 16 own → Fresh froms tos table (S .count) h low high marks
-      → lo ≡ getD low h 0 → hi ≡ getD high h 0 → Chosen (pullTo froms tos widths table h) S own (getD costs h 0) bound lo hi t
-      → Goal froms tos widths costs bound h table S low high marks t
-  unfolding choiceAt
+  pub goal-fresh : {own lo hi : ℕ} {r : Target} {table low high marks : List ℕ} (S : PartSums) → h < 512 → Read table h 16 own → Fresh froms tos table (S .count) h low high marks
+      → lo ≡ getD low h 0 → hi ≡ getD high h 0 → Aims (pullTo froms tos widths table h) S own (getD costs h 0) bound lo hi r
+      → Goal froms tos widths costs bound h table S low high marks r
+  unfolding choiceAt gainAt
   goal-fresh S l o F el eh C =
       record {
-        is = C .is ∙ rw (o .is, el, eh, F .known .low-is h l (F .right), F .known .high-is h l (F .right));
-        within = C .within;
+        is = C .chosen .is ∙ rw (o .is, el, eh, F .known .low-is h l (F .right), F .known .high-is h l (F .right));
+        within = C .chosen .within;
+        gain-is = C .gain-is ∙ rw (o .is);
         known = F .known;
       }
 
   -- where a cluster goes elsewhere: the sums allow it, and its mark is not 0
-  module _ {t : ℕ} {table low high marks : List ℕ} {S : PartSums} (G : Goal froms tos widths costs bound h table S low high marks t) (n : t ≡ getD table h 0 → ⊥) where
-    pub goal-allowed : getD table h 0 < 16 → bound < 2 ^ 32 → Shifts S (getD table h 0) t (getD costs h 0)
+  module _ {r : Target} {table low high marks : List ℕ} {S : PartSums} (G : Goal froms tos widths costs bound h table S low high marks r) (n : r .part ≡ getD table h 0 → ⊥) where
+    pub goal-allowed : getD table h 0 < 16 → bound < 2 ^ 32 → Shifts S (getD table h 0) (r .part) (getD costs h 0)
     unfolding choiceAt
     goal-allowed lo lb =
         rw (G .is) (allowed-shifts _ _ _ _ _ (choice-allowed _ _ _ _ _ _ _ (rw (G .is) at n)) lo (rw (G .is) at (G .within)) lb)
@@ -153,15 +171,21 @@ module _ (froms tos widths costs : List ℕ) (bound h : ℕ) where
     pub goal-marked : h < 512 → getD marks h 0 ≡ 0 → ⊥
     goal-marked l z = n (G .is ∙ closed-stays S l (G .known) z)
 
+  pub goal-paid : {r : Target} {low high marks : List ℕ} (w : Work) → Goal froms tos widths costs bound h (w .table) (w .sums) low high marks r
+      → Paid froms tos widths costs bound h w → r .gain ≤ w .cut
+  unfolding Paid
+  goal-paid w G p = rw (G .gain-is, G .is) p
+
   pub worked-stay : (w : Work) (t : ℕ) → t ≡ choiceAt froms tos widths costs bound h (w .table) (w .sums) → t ≡ getD (w .table) h 0 → w ≡ worked froms tos widths costs bound h w
   unfolding worked movedBy
   worked-stay w t e n = rw (← e, eq-eqb _ _ n)
 
-  pub worked-move : (w : Work) (own cost t : ℕ) (S : PartSums) → own ≡ getD (w .table) h 0 → cost ≡ getD costs h 0
+  pub worked-move : (w : Work) (own cost t gain : ℕ) (S : PartSums) → own ≡ getD (w .table) h 0 → cost ≡ getD costs h 0
       → t ≡ choiceAt froms tos widths costs bound h (w .table) (w .sums) → (t ≡ own → ⊥) → S ≡ shifted (w .sums) own t cost
-      → _≡_ {A = Work} (record { table = set (w .table) h t; sums = S; moves = w .moves + 1 }) (worked froms tos widths costs bound h w)
+      → gain ≡ gainAt froms tos widths h (w .table) t
+      → _≡_ {A = Work} (record { table = set (w .table) h t; sums = S; cut = w .cut - gain; moves = w .moves + 1; moved = true }) (worked froms tos widths costs bound h w)
   unfolding worked movedBy
-  worked-move w own cost t S eo ec e n es = rw (← e, ← eo, ← ec, ne-eqb t own n, es)
+  worked-move w own cost t gain S eo ec e n es eg = rw (← e, ← eo, ← ec, ne-eqb t own n, es, eg)
 
   -- a visit that is left out
   pub done-closed : {low high marks : List ℕ} (w : Work) → h < 512 → Placed (w .table) → Known froms tos (w .table) (w .sums .count) low high marks → getD marks h 0 ≡ 0
@@ -175,3 +199,7 @@ done-none f w p = record { is-so = turns-zero f w; placed = p; counts = refl; fe
 pub done-turn : (f : ℕ → Work → Work) {w u v : Work} {i : ℕ} → Done w u i (turns i f w) → Done u v 1 (f i u) → Done w v (i + 1) (turns (i + 1) f w)
 done-turn f {w} a b =
     record { is-so = turns-turn f w (a .is-so) (b .is-so); placed = b .placed; counts = b .counts ∙ a .counts; few = omega (arith, a .few, b .few) }
+
+-- of a pass, which starts with nothing moved
+pub done-pass : {w v x : Work} {n : ℕ} → Done (begun w) v n x → Done w v n x
+done-pass d = record { is-so = d .is-so; placed = d .placed; counts = d .counts; few = d .few }

@@ -1,7 +1,7 @@
 -- The work on one rung, as the code does it: over a table of the clusters' parts and the record of sums.
 use Prim.Native.Nat.{ℕ, _+_, _-_, _≤_, _<_}
 use mathlib.Core.Path.{_≡_}
-use mathlib.Core.Bool.{Bool, _&&_}
+use mathlib.Core.Bool.{Bool, true, false, _&&_}
 use mathlib.Core.List.{List}
 use lib.Dec.{eqb, ltb, leb}
 use lib.ListN.{getD, set}
@@ -10,6 +10,7 @@ use Rattle.visit.specs.Visit.{Placed, lowNext, highBefore, pullTo}
 use Rattle.visit.specs.Known.{Known}
 use Rattle.part_sums.specs.declared.PartSums.{PartSums}
 use Rattle.pass.specs.declared.Progress.{Progress}
+use Rattle.pass.specs.declared.Target.{Target}
 use Rattle.part_sums.specs.Sums.{sumsAllow, shifted}
 
 -- part t in place of the best so far; f u is the cluster's width to part u
@@ -29,36 +30,62 @@ pub record Chosen (f : ℕ → ℕ) (S : PartSums) (own cost bound low high r : 
   pub is : r ≡ choiceOf f S own cost bound low high
   pub within : r < 16
 
+-- r is that part, and how much more the cluster is tied to it than to its own
+pub record Aims (f : ℕ → ℕ) (S : PartSums) (own cost bound low high : ℕ) (r : Target) : Type 0 where
+  pub chosen : Chosen f S own cost bound low high (r .part)
+  pub gain-is : r .gain ≡ f (r .part) - f own
+
 -- a cluster stays in its part, whatever its widths are
 abbrev pub Idle : PartSums → ℕ → ℕ → ℕ → ℕ → ℕ → Type 0
 Idle S own cost bound low high = (f : ℕ → ℕ) → choiceOf f S own cost bound low high ≡ own
 
--- the clusters' parts, the sums and the moves made so far
+-- the clusters' parts, the sums, the cut, the moves counted so far, and whether the pass at hand has moved something
 pub record Work : Type 0 where
   pub table : List ℕ
   pub sums : PartSums
+  pub cut : ℕ
   pub moves : ℕ
+  pub moved : Bool
 
 abbrev pub workOf : List ℕ → Progress → Work
-workOf table p = record { table = table; sums = p .sums; moves = p .moves }
+workOf table p = record { table = table; sums = p .sums; cut = p .cut; moves = p .moves; moved = p .moved }
+
+-- at the start of a pass
+abbrev pub begun : Work → Work
+begun w = record { table = w .table; sums = w .sums; cut = w .cut; moves = w .moves; moved = false }
 
 -- a visit of cluster h, by a rung's lists and the clusters' costs
 unfoldable pub choiceAt : List ℕ → List ℕ → List ℕ → List ℕ → ℕ → ℕ → List ℕ → PartSums → ℕ
 choiceAt froms tos widths costs bound h table S =
     choiceOf (pullTo froms tos widths table h) S (getD table h 0) (getD costs h 0) bound (lowNext froms tos table h (S .count)) (highBefore froms tos table h)
 
-unfoldable pub movedBy : List ℕ → ℕ → ℕ → Work → Work
-movedBy costs h t w =
+-- by how much the cut falls where h goes to part t
+unfoldable pub gainAt : List ℕ → List ℕ → List ℕ → ℕ → List ℕ → ℕ → ℕ
+gainAt froms tos widths h table t = pullTo froms tos widths table h t - pullTo froms tos widths table h (getD table h 0)
+
+unfoldable pub movedBy : List ℕ → List ℕ → List ℕ → List ℕ → ℕ → ℕ → Work → Work
+movedBy froms tos widths costs h t w =
     pick (eqb t (getD (w .table) h 0)) w
-    (record { table = set (w .table) h t; sums = shifted (w .sums) (getD (w .table) h 0) t (getD costs h 0); moves = w .moves + 1 })
+    (record {
+      table = set (w .table) h t;
+      sums = shifted (w .sums) (getD (w .table) h 0) t (getD costs h 0);
+      cut = w .cut - gainAt froms tos widths h (w .table) t;
+      moves = w .moves + 1;
+      moved = true;
+    })
 
 unfoldable pub worked : List ℕ → List ℕ → List ℕ → List ℕ → ℕ → ℕ → Work → Work
-worked froms tos widths costs bound h w = movedBy costs h (choiceAt froms tos widths costs bound h (w .table) (w .sums)) w
+worked froms tos widths costs bound h w = movedBy froms tos widths costs h (choiceAt froms tos widths costs bound h (w .table) (w .sums)) w
+
+-- what the visit of cluster h gains is in the cut
+unfoldable pub Paid : List ℕ → List ℕ → List ℕ → List ℕ → ℕ → ℕ → Work → Type 0
+Paid froms tos widths costs bound h w = gainAt froms tos widths h (w .table) (choiceAt froms tos widths costs bound h (w .table) (w .sums)) ≤ w .cut
 
 -- r is where the visit of cluster h takes it, and what is known afterwards of the clusters
-pub record Goal (froms tos widths costs : List ℕ) (bound h : ℕ) (table : List ℕ) (S : PartSums) (low high marks : List ℕ) (r : ℕ) : Type 0 where
-  pub is : r ≡ choiceAt froms tos widths costs bound h table S
-  pub within : r < 16
+pub record Goal (froms tos widths costs : List ℕ) (bound h : ℕ) (table : List ℕ) (S : PartSums) (low high marks : List ℕ) (r : Target) : Type 0 where
+  pub is : r .part ≡ choiceAt froms tos widths costs bound h table S
+  pub within : r .part < 16
+  pub gain-is : r .gain ≡ gainAt froms tos widths h table (r .part)
   pub known : Known froms tos table (S .count) low high marks
 
 -- what the code says of the work w′ that came of w by at most so many moves

@@ -6,13 +6,21 @@ ghost use lib.ListN.{length, getD};
 ghost use Rattle.folds.specs.Fold.{turns};
 ghost use Rattle.visit.specs.Visit.{Placed, Listed, Indexed, pullTo};
 ghost use Rattle.visit.specs.Known.{Known};
-ghost use Rattle.pass.specs.Work.{betterOf, backOf, Chosen, Idle, workOf, worked, Goal, Done};
+ghost use Rattle.pass.specs.Work.{betterOf, backOf, Chosen, Aims, Idle, workOf, begun, worked, Paid, Goal, Done};
 use part_sums::PartSums;
 
-// The sums, and the moves made so far.
+// The sums, the cut, the moves counted so far, and whether the pass at hand has moved something.
 pub struct Progress {
     pub sums: PartSums,
+    pub cut: u32,
     pub moves: usize,
+    pub moved: bool,
+}
+
+// The part that a cluster goes to, and how much the cut falls by it.
+struct Target {
+    part: usize,
+    gain: u32,
 }
 
 // Part t, where it is allowed and the cluster is more tied to it than to the best part so far.
@@ -132,16 +140,16 @@ fn decide(
     high: usize,
     cost: u32,
     bound: u32,
-) -> usize
+) -> Target
     requires { ⌜ Listed (now from) (now to) (now widths) ⌝ }
     requires { ⌜ Indexed (now from) (now to) (now head) (now next) (now «head_in») (now «next_in») ⌝ }
     requires { ⌜ Placed (now table) ⌝ }
     requires { ⌜ (h < 512) × (own < 16) × (sums .count ≤ 16) ⌝ }
-    ensures { λ r. ⌜ Chosen (pullTo (now (from .entry)) (now (to .entry)) (now (widths .entry)) (now (table .entry)) h) sums own cost bound low high r ⌝ }
+    ensures { λ r. ⌜ Aims (pullTo (now (from .entry)) (now (to .entry)) (now (widths .entry)) (now (table .entry)) h) sums own cost bound low high r ⌝ }
 {
     let still = idle(sums, own, low, high, cost, bound);
     if still {
-        return own;
+        return Target { part: own, gain: 0 };
     }
     let mut toward = [0u32; 16];
     visit::pulls(
@@ -156,7 +164,11 @@ fn decide(
         h,
         &mut toward,
     );
-    choice(&toward, sums, own, low, high, cost, bound)
+    let t = choice(&toward, sums, own, low, high, cost, bound);
+    Target {
+        part: t,
+        gain: toward[t] - toward[own],
+    }
 }
 
 // Where the visit of cluster h takes it, by the parts around it, which are found again where an end of its edges has moved.
@@ -176,7 +188,7 @@ fn goal(
     high: &mut [u16; 512],
     marks: &mut [u8; 512],
     sums: PartSums,
-) -> usize
+) -> Target
     requires { ⌜ Listed (now from) (now to) (now widths) ⌝ }
     requires { ⌜ Indexed (now from) (now to) (now head) (now next) (now «head_in») (now «next_in») ⌝ }
     requires { ⌜ Placed (now table) ⌝ }
@@ -242,6 +254,7 @@ fn refine_cluster(
     requires { ⌜ Placed (now table) ⌝ }
     requires { ⌜ Known (now from) (now to) (now table) (before .sums .count) (now low) (now high) (now marks) ⌝ }
     requires { ⌜ (h < 512) × (length (now costs) ≡ 512) × (before .sums .count ≤ 16) × (before .moves < 2 ^ 33) ⌝ }
+    requires { ⌜ Paid (now from) (now to) (now widths) (now costs) bound h (workOf (now table) before) ⌝ }
     ensures { λ r. ⌜ Done (workOf (now (table .entry)) before) (workOf (now (table .exit)) r) 1 (worked (now (from .entry)) (now (to .entry)) (now (widths .entry)) (now (costs .entry)) bound h (workOf (now (table .entry)) before)) ⌝ }
     ensures { λ _. ⌜ Known (now (from .entry)) (now (to .entry)) (now (table .exit)) (before .sums .count) (now (low .exit)) (now (high .exit)) (now (marks .exit)) ⌝ }
 {
@@ -250,7 +263,7 @@ fn refine_cluster(
     }
     let sums = before.sums;
     let own = visit::part_at(table, h);
-    let t = goal(
+    let aim = goal(
         from,
         to,
         widths,
@@ -267,6 +280,7 @@ fn refine_cluster(
         marks,
         sums,
     );
+    let t = aim.part;
     if t == own {
         return before;
     }
@@ -275,11 +289,13 @@ fn refine_cluster(
     let after = sums.moved(own, t, costs[h]);
     Progress {
         sums: after,
+        cut: before.cut - aim.gain,
         moves: before.moves + 1,
+        moved: true,
     }
 }
 
-// A pass: visits the clusters below g in number order.
+// A pass: visits the clusters below g in number order. What each visit gains is in the cut: the caller says so, who knows whose cut it is.
 pub fn pass(
     from: &[u16],
     to: &[u16],
@@ -302,10 +318,12 @@ pub fn pass(
     requires { ⌜ Placed (now table) ⌝ }
     requires { ⌜ Known (now from) (now to) (now table) (before .sums .count) (now low) (now high) (now marks) ⌝ }
     requires { ⌜ (g ≤ 512) × (length (now costs) ≡ 512) × (before .sums .count ≤ 16) × (before .moves < 2 ^ 32) ⌝ }
-    ensures { λ r. ⌜ Done (workOf (now (table .entry)) before) (workOf (now (table .exit)) r) g (turns g (worked (now (from .entry)) (now (to .entry)) (now (widths .entry)) (now (costs .entry)) bound) (workOf (now (table .entry)) before)) ⌝ }
+    requires { ⌜ ((i : ℕ) → i < g → Paid (now from) (now to) (now widths) (now costs) bound i (turns i (worked (now from) (now to) (now widths) (now costs) bound) (begun (workOf (now table) before)))) ⌝ }
+    ensures { λ r. ⌜ Done (workOf (now (table .entry)) before) (workOf (now (table .exit)) r) g (turns g (worked (now (from .entry)) (now (to .entry)) (now (widths .entry)) (now (costs .entry)) bound) (begun (workOf (now (table .entry)) before))) ⌝ }
     ensures { λ _. ⌜ Known (now (from .entry)) (now (to .entry)) (now (table .exit)) (before .sums .count) (now (low .exit)) (now (high .exit)) (now (marks .exit)) ⌝ }
 {
     let mut p = before;
+    p.moved = false;
     let mut h: usize = 0;
     while h < g {
         p = refine_cluster(

@@ -17,6 +17,7 @@ use Rattle.validity.specs.Cause.{Answer, told}
 use Rattle.validity.specs.declared.Verdict.the-variants.{Passed}
 use Rattle.validity.proofs.Passed.{valid-sound}
 use Rattle.hierarchy.proofs.Own.{kept-few}
+use Rattle.validity.specs.Check.{mostVertices}
 use Rattle.partition.specs.Split.{splitOf, tableAfter}
 use Rattle.partition.proofs.Claims.{split-answered, split-least, split-few-moves, split-good}
 use Rattle.line_forms.specs.Form.{fits}
@@ -51,16 +52,16 @@ entries-low parts n k l few below i = by (ltb i n) (λ e. omega (arith, below i 
 module _ (G : Graph) (k bound : ℕ) (table ladder : List ℕ) (narrow : (j : ℕ) → getD (G .widths) j 0 < 65536) where
   -- the table that the split left, as it is printed
   abbrev printedParts : List ℕ
-  printedParts = take (vertices G) (tableAfter G k bound table ladder)
+  printedParts = take (vertices G) (tableAfter mostVertices G k bound table ladder)
 
   record Printed (values : List ℕ) : Type 0 where
     whole : length printedParts ≡ vertices G
     can : Savable values printedParts
 
   -- after an answer that is no refusal it is whole and of the form
-  printed : (values : List ℕ) → splitOf G k bound table ladder ≡ told Passed values → Printed values
+  printed : (values : List ℕ) → splitOf mostVertices G k bound table ladder ≡ told Passed values → Printed values
   printed values e =
-      let (valid, (rung, first, tally, A)) = split-answered G k bound table ladder (ap (λ (a : Answer). a .number) e) in
+      let (valid, (rung, first, tally, A)) = split-answered mostVertices (omega arith) G k bound table ladder (ap (λ (a : Answer). a .number) e) in
       let S = valid-sound G k bound valid in
       let good = split-good G k bound valid (A .result) in
       let few = kept-few G k bound (S .proper .formed) (S .acyclic) in
@@ -69,18 +70,18 @@ module _ (G : Graph) (k bound : ℕ) (table ladder : List ℕ) (narrow : (j : �
       let last = cut-low G (tally .parts) narrow in
       let start = cut-low G first narrow in
       let moved = split-few-moves G k bound valid (A .result) in
-      let parts : printedParts ≡ tally .parts = rw (A .table-is) (take-over (tally .parts) table (vertices G) (good .whole)) in
+      let parts : printedParts ≡ tally .parts = rw (A .table-is) (take-over (tally .parts) table (vertices G) (good .table .whole)) in
       record {
-        whole = rw parts (good .whole);
+        whole = rw parts (good .table .whole);
         can = rw parts (record {
           figures = rw (ap (λ (a : Answer). a .values) (sym e ∙ A .answer)) (figures-fit _ _ _ _ (omega arith) (omega arith) (omega arith) (omega arith));
-          few = omega (arith, good .whole, S .proper .few);
-          low = entries-low (tally .parts) (vertices G) k (good .whole) (S .few) (good .below);
+          few = omega (arith, good .table .whole, S .proper .few);
+          low = entries-low (tally .parts) (vertices G) k (good .table .whole) (S .few) (good .table .below);
         });
       }
 
   -- THE SPLIT'S LINES ARE READ BACK: from what is printed of an answer that is no refusal, with a list that is long enough, come its figures and its table
-  pub split-read-back : (c r g m : ℕ) → splitOf G k bound table ladder ≡ told Passed (c ∷ r ∷ g ∷ m ∷ []) → (old : List ℕ) → vertices G ≤ length old
+  pub split-read-back : (c r g m : ℕ) → splitOf mostVertices G k bound table ladder ≡ told Passed (c ∷ r ∷ g ∷ m ∷ []) → (old : List ℕ) → vertices G ≤ length old
       → (tableAnswer (savedIn (splitText c r g m printedParts)) (length old) ≡ told Passed (c ∷ r ∷ g ∷ m ∷ vertices G ∷ []))
       × (tableWritten (savedIn (splitText c r g m printedParts)) old ≡ over printedParts old)
   unfolding tableAnswer tableWritten
@@ -91,5 +92,5 @@ module _ (G : Graph) (k bound : ℕ) (table ladder : List ℕ) (narrow : (j : �
       rw (own, le-ltb _ _ h, P .whole) (refl, refl)
 
   -- and its buffer of 16,384 bytes is always long enough
-  pub split-fits : (c r g m : ℕ) → splitOf G k bound table ladder ≡ told Passed (c ∷ r ∷ g ∷ m ∷ []) → length (splitText c r g m printedParts) ≤ 16384
+  pub split-fits : (c r g m : ℕ) → splitOf mostVertices G k bound table ladder ≡ told Passed (c ∷ r ∷ g ∷ m ∷ []) → length (splitText c r g m printedParts) ≤ 16384
   split-fits c r g m e = omega (arith, table-long (c ∷ r ∷ g ∷ m ∷ []) printedParts (printed (c ∷ r ∷ g ∷ m ∷ []) e .can))

@@ -13,20 +13,23 @@ use Rattle.folds.proofs.Cases.{by, both, either, eq-or-ne, same-test}
 use Rattle.folds.proofs.Sums.{sumTo-ext, sumTo-add, sumTo-none, sumTo-member}
 use Rattle.folds.proofs.Searches.{any-e, any-none}
 use Rattle.folds.proofs.Lists.{listTo-ext}
-use Rattle.graph.specs.Graph.{Graph, vertices, costIn, partCost, through, RowOf, Proper}
+use Rattle.graph.specs.Graph.{Graph, vertices, cutOf, costIn, partCost, through, RowOf, Proper}
 use Rattle.graph.specs.Coarse.{Coarse}
 use Rattle.graph.specs.Rows.{clusters}
 use Rattle.graph.proofs.Edges.{through-at, length-through}
-use Rattle.moves.specs.Move.{partSize, movedTo, partOf, pull, gainTo}
-use Rattle.moves.specs.Pass.{lowestNext, aboveBefore, stays, allows, tried, goesBack, target, Tally, tallyOf, settledAt, visited, passOf}
-use Rattle.moves.proofs.Move.{cost-new, cost-old, cost-third}
+use Rattle.graph.proofs.Tables.{size-cost}
+use Rattle.moves.specs.Move.{movedTo, partOf, pull, gainTo}
+use Rattle.moves.specs.Pass.{lowestNext, aboveBefore, stays, allows, tried, goesBack, target, Tally, settledAt, visited, passOf}
+use Rattle.moves.proofs.Visits.{no-less, target-chosen}
+use Rattle.moves.proofs.Move.{cut-move, cost-new, cost-old, cost-third}
 use Rattle.moves.proofs.Signed.{less-gain}
 use Rattle.moves.proofs.Entries.{first-of, moved-at}
-use Rattle.visit.specs.Visit.{Placed}
+use Rattle.visit.specs.Visit.{Placed, pullTo}
 use Rattle.part_sums.specs.Sums.{SumsOf, sumsAllow}
-use Rattle.pass.specs.Work.{betterOf, backOf, choiceOf, Work, choiceAt, movedBy, worked}
+use Rattle.pass.specs.Work.{betterOf, backOf, choiceOf, Work, begun, choiceAt, gainAt, movedBy, worked, Paid}
 use Rattle.part_sums.proofs.Sums.{shifted-sums}
 use Rattle.pass.proofs.Work.{placed-set, choice-below, choice-ext}
+use Rattle.refine.specs.Rung.{Tracks}
 use Rattle.refine.proofs.Lists.{low-lists, high-lists, pull-lists}
 
 -- the part of a cluster, and a move, through the clusters' table
@@ -91,16 +94,23 @@ module _ (G : Graph) (P : Proper G) (row parts : List ℕ) (h s : ℕ) (all : (v
       rest : ℕ
       rest = sumTo (vertices G) outside
 
--- the code's work w stands for s: its table and moves, and the record is the sums of the table
+-- what the code's work stands for
+abbrev pub tallied : List ℕ → Work → Tally
+tallied row w = record { parts = through row (w .table); moves = w .moves; moved = w .moved }
+
+-- the code's work w stands for s, and its sums and its cut are those of the table
 pub record Follows (G : Graph) (k : ℕ) (row : List ℕ) (w : Work) (s : Tally) : Type 0 where
-  pub is : tallyOf (through row (w .table)) (w .moves) ≡ s
-  pub sums : SumsOf (G .costs) (through row (w .table)) k (w .sums)
+  pub is : tallied row w ≡ s
+  pub tracks : Tracks G (through row (w .table)) k (w .sums) (w .cut)
   pub placed : Placed (w .table)
 
 -- one cluster h of a row, with a vertex of it
 module _ (G : Graph) (P : Proper G) (k bound : ℕ) (row costs froms tos widths : List ℕ) (row-of : RowOf G row (clusters row)) (lists : Coarse G row (clusters row) froms tos widths) (few : k ≤ 16)
-    (h : ℕ) (in-table : h < 512) (cost-is : getD costs h 0 ≡ partCost (G .costs) row h) (some : (v : ℕ) × (v < vertices G) × (getD row v 0 ≡ h))
-    (w : Work) (placed : Placed (w .table)) (R : SumsOf (G .costs) (through row (w .table)) k (w .sums)) where
+    (h : ℕ) (in-row : h < clusters row) (in-table : h < 512) (cost-is : getD costs h 0 ≡ partCost (G .costs) row h) (some : (v : ℕ) × (v < vertices G) × (getD row v 0 ≡ h))
+    (w : Work) (placed : Placed (w .table)) (T : Tracks G (through row (w .table)) k (w .sums) (w .cut)) where
+  R : SumsOf (G .costs) (through row (w .table)) k (w .sums)
+  R = T .sums
+
   whole : length row ≡ vertices G
   whole = row-of .whole
 
@@ -130,9 +140,9 @@ module _ (G : Graph) (P : Proper G) (k bound : ℕ) (row costs froms tos widths 
   upd t v l = moved-at row h t parts v (omega (arith, length-through row (w .table)))
 
   allows-sums : (t : ℕ) → (own ≡ t → ⊥) → t < 16 → allows G bound row parts h t ≡ sumsAllow (w .sums) own t cost bound
-  unfolding allows partSize sumsAllow parts cost
+  unfolding allows sumsAllow parts cost
   allows-sums t n l =
-      rw (stays-sum G P row parts h own all own-is, cost-new G (P .formed) row parts (movedTo row h t parts) h own t all (upd t) n, R .is own own-low, R .is t l, cost-is)
+      rw (stays-sum G P row parts h own all own-is, size-cost G (movedTo row h t parts) t, cost-new G (P .formed) row parts (movedTo row h t parts) h own t all (upd t) n, R .is own own-low, R .is t l, cost-is)
       (and-swap (leb (partCost (G .costs) parts t + partCost (G .costs) row h) bound) (ltb (partCost (G .costs) row h) (partCost (G .costs) parts own)))
 
   tried-better : (candidate : Bool) (t best : ℕ) → (candidate ≡ true → (own ≡ t → ⊥) × (t < 16)) → tried G bound row parts h candidate t best ≡ betterOf (pull G row parts h) (w .sums) own cost bound candidate t best
@@ -177,19 +187,39 @@ module _ (G : Graph) (P : Proper G) (k bound : ℕ) (row costs froms tos widths 
   unfolding choiceAt own
   choice-low = choice-below _ _ (w .sums) own (getD costs h 0) bound (λ u l. refl) _ _ own-low (omega (arith, R .counts))
 
-  pub worked-visited : Follows G k row (worked froms tos widths costs bound h w) (visited G k bound row h (tallyOf (through row (w .table)) (w .moves)))
-  unfolding worked movedBy visited settledAt parts own
+  -- the cut falls by the gain, which is not below 0
+  cut-falls : (t : ℕ) → cutOf G parts + pullTo froms tos widths (w .table) h own ≡ cutOf G (movedTo row h t parts) + pullTo froms tos widths (w .table) h t
+  unfolding parts
+  cut-falls t =
+      rw (pull-lists lists (P .formed) row-of (P .wide) (w .table) h own, pull-lists lists (P .formed) row-of (P .wide) (w .table) h t)
+      (cut-move G (P .formed) row parts (movedTo row h t parts) h own t all (upd t))
+
+  gains : pullTo froms tos widths (w .table) h own ≤ pullTo froms tos widths (w .table) h (target G k bound row parts h)
+  unfolding parts
+  gains =
+      rw (pull-lists lists (P .formed) row-of (P .wide) (w .table) h own, pull-lists lists (P .formed) row-of (P .wide) (w .table) h (target G k bound row parts h), ← own-is)
+      (no-less G row parts h bound (target G k bound row parts h) (target-chosen G row parts h bound k in-row))
+
+  pub worked-paid : Paid froms tos widths costs bound h w
+  unfolding Paid gainAt parts own
+  worked-paid = rw choice-target (omega (arith, cut-falls (target G k bound row parts h), gains, T .cut-is))
+
+  pub worked-visited : Follows G k row (worked froms tos widths costs bound h w) (visited G k bound row h (tallied row w))
+  unfolding worked movedBy gainAt visited settledAt parts own
   worked-visited =
       rw (choice-target, own-is)
-      (either (eq-or-ne t own) (λ e. rw (eq-eqb t own e) (record { is = refl; sums = R; placed = placed }))
+      (either (eq-or-ne t own) (λ e. rw (eq-eqb t own e) (record { is = refl; tracks = T; placed = placed }))
       (λ n. rw (ne-eqb t own n)
       (record {
-        is = ap (λ (l : List ℕ). tallyOf l (w .moves + 1)) (sym (moved-through row (w .table) h t (omega (arith, placed .long))));
-        sums = rw (← moved-through row (w .table) h t (omega (arith, placed .long)), cost-is)
-            (shifted-sums (w .sums) own t (partCost (G .costs) row h) 0 R (λ e. n (sym e)) own-low low
-            (cost-old G (P .formed) row parts (movedTo row h t parts) h own t all (upd t) (λ e. n (sym e)))
-            (cost-new G (P .formed) row parts (movedTo row h t parts) h own t all (upd t) (λ e. n (sym e)))
-            (cost-third G (P .formed) row parts (movedTo row h t parts) h own t all (upd t)));
+        is = ap (λ (l : List ℕ). record { parts = l; moves = w .moves + 1; moved = true }) (sym (moved-through row (w .table) h t (omega (arith, placed .long))));
+        tracks = rw (← moved-through row (w .table) h t (omega (arith, placed .long)), cost-is)
+            (record {
+              sums = shifted-sums (w .sums) own t (partCost (G .costs) row h) 0 R (λ e. n (sym e)) own-low low
+                  (cost-old G (P .formed) row parts (movedTo row h t parts) h own t all (upd t) (λ e. n (sym e)))
+                  (cost-new G (P .formed) row parts (movedTo row h t parts) h own t all (upd t) (λ e. n (sym e)))
+                  (cost-third G (P .formed) row parts (movedTo row h t parts) h own t all (upd t));
+              cut-is = omega (arith, cut-falls t, gains, T .cut-is);
+            });
         placed = placed-set h t placed low;
       })))
     where
@@ -215,9 +245,18 @@ module _ (G : Graph) (P : Proper G) (k bound : ℕ) (few : k ≤ 16) (row costs 
   turns-visited zero l w s f = f
   turns-visited (suc i) l w s f =
       let g = turns-visited i (omega arith) w s f in
-      rw (← g .is) (worked-visited G P k bound row costs froms tos widths (R .row-of) (R .lists) few i (omega (arith, R .few)) (R .cost i l) (R .onto i l) _ (g .placed) (g .sums))
+      rw (← g .is) (worked-visited G P k bound row costs froms tos widths (R .row-of) (R .lists) few i l (omega (arith, R .few)) (R .cost i l) (R .onto i l) _ (g .placed) (g .tracks))
 
-  pub pass-follows : (w : Work) (s : Tally) → Follows G k row w s
-      → Follows G k row (turns (clusters row) (worked froms tos widths costs bound) w) (passOf G k bound row s)
-  unfolding passOf
-  pass-follows w s f = turns-visited (clusters row) (omega arith) w s f
+  module _ (w : Work) (T : Tracks G (through row (w .table)) k (w .sums) (w .cut)) (p : Placed (w .table)) where
+    begins : Follows G k row (begun w) (tallied row (begun w))
+    begins = record { is = refl; tracks = T; placed = p }
+
+    pub pass-follows : Follows G k row (turns (clusters row) (worked froms tos widths costs bound) (begun w)) (passOf G k bound row (tallied row w))
+    unfolding passOf
+    pass-follows = turns-visited (clusters row) (omega arith) (begun w) (tallied row (begun w)) begins
+
+    -- each visit of it finds its gain in the cut
+    pub pass-paid : (i : ℕ) → i < clusters row → Paid froms tos widths costs bound i (turns i (worked froms tos widths costs bound) (begun w))
+    pass-paid i l =
+        let g = turns-visited i (omega arith) (begun w) (tallied row (begun w)) begins in
+        worked-paid G P k bound row costs froms tos widths (R .row-of) (R .lists) few i l (omega (arith, R .few)) (R .cost i l) (R .onto i l) _ (g .placed) (g .tracks)

@@ -3,44 +3,33 @@ use Prim.Native.Nat.{ℕ, zero, suc, _+_, _≤_, _<_, min, max}
 use mathlib.Core.Path.{_≡_, sym, ap, ap₂, _∙_}
 use mathlib.Core.Bool.{Bool, true, false, not, _&&_}
 use mathlib.Core.List.{List}
-use native.Mathlib.Nat.{not-suc-le-zero}
 use native.Mathlib.Omega.{arith}
 use lib.Dec.{eqb}
 use lib.ListN.{length, getD}
 use borrow.Author.Tests.{eqb-true, eqb-false, eq-eqb, ne-eqb}
-use Rattle.folds.specs.Fold.{pick, when, sumTo, turns}
-use Rattle.folds.proofs.Cases.{by, either, eq-or-ne, both, not-yes, last-or}
+use Rattle.folds.specs.Fold.{when, sumTo, turns}
+use Rattle.folds.proofs.Cases.{by, either, eq-or-ne, both, not-yes}
 use Rattle.folds.proofs.Sums.{sumTo-ext}
 use Rattle.graph.specs.Graph.{Graph, edges, via, through, Formed, RowOf}
 use Rattle.graph.specs.Coarse.{Coarse}
 use Rattle.graph.proofs.Edges.{through-at}
 use Rattle.graph.proofs.Coarse.{coarse-sum, listed-edge, edge-listed}
 use Rattle.moves.specs.Move.{leaves, share, pull}
+use Rattle.moves.proofs.Visits.{choose, best-of}
 use Rattle.moves.specs.Pass.{lowered, raised, lowestNext, aboveBefore}
 use Rattle.visit.specs.Visit.{lowerBy, raiseBy, widthTo, lowNext, highBefore, pullTo}
 
--- the best of s and of f at the numbers below m that have p
-abbrev best : (ℕ → ℕ → ℕ) → (ℕ → Bool) → (ℕ → ℕ) → ℕ → ℕ → ℕ
-best better p f s m = turns m (λ j t. pick (p j) (better t (f j)) t) s
-
--- by a `better` that is the nearest to both in an order R
+-- the best of many, by a `better` that is the nearest to both in an order R
 module _ (better : ℕ → ℕ → ℕ) (R : ℕ → ℕ → Type 0) (self : (a : ℕ) → R a a) (trans : (a b c : ℕ) → R a b → R b c → R a c)
     (left : (a b : ℕ) → R (better a b) a) (right : (a b : ℕ) → R (better a b) b) (nearest : (x a b : ℕ) → R x a → R x b → R x (better a b))
     (same : (a b : ℕ) → R a b → R b a → a ≡ b) where
   module _ (p : ℕ → Bool) (f : ℕ → ℕ) (s : ℕ) where
-    best-start : (m : ℕ) → R (best better p f s m) s
+    best-start : (m : ℕ) → R (choose p f better s m) s
     unfolding turns
     best-start zero = self s
     best-start (suc m) = by (p m) (λ q. rw q (trans _ _ _ (left _ (f m)) (best-start m))) (λ q. rw q (best-start m))
 
-    best-of : (m j : ℕ) → j < m → p j ≡ true → R (best better p f s m) (f j)
-    unfolding turns
-    best-of zero j l q = absurd (not-suc-le-zero l)
-    best-of (suc m) j l q =
-        either (last-or l) (λ e. rw (← e, q) (right _ (f j)))
-        (λ h. by (p m) (λ x. rw x (trans _ _ _ (left _ (f m)) (best-of m j h q))) (λ x. rw x (best-of m j h q)))
-
-    best-nearest : (x m : ℕ) → R x s → ((j : ℕ) → j < m → p j ≡ true → R x (f j)) → R x (best better p f s m)
+    best-nearest : (x m : ℕ) → R x s → ((j : ℕ) → j < m → p j ≡ true → R x (f j)) → R x (choose p f better s m)
     unfolding turns
     best-nearest x zero l h = l
     best-nearest x (suc m) l h =
@@ -48,11 +37,11 @@ module _ (better : ℕ → ℕ → ℕ) (R : ℕ → ℕ → Type 0) (self : (a 
 
   -- where each value of one is a value of the other
   best-same : (p q : ℕ → Bool) (f g : ℕ → ℕ) (s m n : ℕ) → ((j : ℕ) → j < m → p j ≡ true → (i : ℕ) × (i < n) × (q i ≡ true) × (g i ≡ f j))
-      → ((i : ℕ) → i < n → q i ≡ true → (j : ℕ) × (j < m) × (p j ≡ true) × (f j ≡ g i)) → best better p f s m ≡ best better q g s n
+      → ((i : ℕ) → i < n → q i ≡ true → (j : ℕ) × (j < m) × (p j ≡ true) × (f j ≡ g i)) → choose p f better s m ≡ choose q g better s n
   best-same p q f g s m n there back =
       same _ _
-      (best-nearest q g s _ n (best-start p f s m) (λ i l t. let (j, lj, tj, e) = back i l t in rw (← e) (best-of p f s m j lj tj)))
-      (best-nearest p f s _ m (best-start q g s n) (λ j l t. let (i, li, ti, e) = there j l t in rw (← e) (best-of q g s n i li ti)))
+      (best-nearest q g s _ n (best-start p f s m) (λ i l t. let (j, lj, tj, e) = back i l t in rw (← e) (best-of p f better s R trans left right m j lj tj)))
+      (best-nearest p f s _ m (best-start q g s n) (λ j l t. let (i, li, ti, e) = there j l t in rw (← e) (best-of q g better s R trans left right n i li ti)))
 
 -- one way along the edges: near to far in the graph, from to onto in the lists
 module _ (row near far from onto table : List ℕ) (m n h : ℕ) (inside : (j : ℕ) → j < m → getD far j 0 < length row) (apart : (i : ℕ) → i < n → getD from i 0 ≡ getD onto i 0 → ⊥)

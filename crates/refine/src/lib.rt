@@ -2,14 +2,14 @@
 ghost use mathlib.Core.Path.{_≡_};
 ghost use Prim.Native.Nat.{suc, _*_, _<_, _≤_};
 ghost use lib.ListN.{length, take};
-ghost use Rattle.graph.specs.Graph.{graphOf, through};
+ghost use Rattle.graph.specs.Graph.{graphOf, joining, cutOf, through};
 ghost use Rattle.graph.specs.Rows.{clusters, rowsIn};
-ghost use Rattle.graph.specs.Coarse.{Coarse, Stored};
+ghost use Rattle.graph.specs.Links.{Linked, leave};
+ghost use Rattle.graph.specs.Coarse.{Coarse, Stored, LinkedAt};
 ghost use Rattle.moves.specs.Pass.{tallyOf, refined};
 ghost use Rattle.visit.specs.Visit.{Placed};
-ghost use Rattle.part_sums.specs.Sums.{SumsOf};
-ghost use Rattle.refine.specs.Down.{Descends, Refined};
-ghost use Rattle.refine.specs.Rung.{Ready, Settled, RefinedRow};
+ghost use Rattle.refine.specs.Down.{RowLists, Descends, Refined};
+ghost use Rattle.refine.specs.Rung.{Ready, Tracks, Settled, RefinedRow};
 ghost use Rattle.refine.specs.Tables.{Shared, Inherits};
 use part_sums::PartSums;
 use pass::Progress;
@@ -45,7 +45,8 @@ fn hand_down(row: &[u16], table: &[u16; 512], parts: &mut [u16])
     }
 }
 
-// Passes over the clusters of a row until one moves nothing. The graph's own edges are lent for the contract alone.
+// Passes over the clusters of a row until one moves nothing. The links of the edges that leave each are lent; the graph's own edges are lent for
+// the contract alone.
 fn settle(
     costs: &[u16],
     starts: &[u16],
@@ -56,23 +57,24 @@ fn settle(
     from: &[u16],
     to: &[u16],
     width: &[u32],
+    head: &[u16; 513],
+    next: &[u16; 1024],
     table: &mut [u16; 512],
     before: Progress,
 ) -> Progress
     requires { ⌜ Placed (now table) ⌝ }
-    requires { ⌜ SumsOf (now costs) (through (now row) (now table)) (before .sums .count) (before .sums) ⌝ }
+    requires { ⌜ Tracks (graphOf (now costs) (now starts) (now ends) (now widths)) (through (now row) (now table)) (before .sums .count) (before .sums) (before .cut) ⌝ }
     requires { ⌜ Ready (graphOf (now costs) (now starts) (now ends) (now widths)) (before .sums .count) bound (now row) (through (now row) (now table)) (before .moves) ⌝ }
     requires { ⌜ Coarse (graphOf (now costs) (now starts) (now ends) (now widths)) (now row) (clusters (now row)) (now from) (now to) (now width) ⌝ }
+    requires { ⌜ Linked (leave (joining (now from) (now to))) (length (now from)) (now head) (now next) ⌝ }
     ensures { λ r. ⌜ Settled (graphOf (now (costs .entry)) (now (starts .entry)) (now (ends .entry)) (now (widths .entry))) (before .sums .count) bound (now (row .entry)) (now (table .entry)) (before .moves) (now (table .exit)) r ⌝ }
 {
-    let mut head = [0u16; 513];
-    let mut next = [0u16; 1024];
     let mut head_in = [0u16; 513];
     let mut next_in = [0u16; 1024];
-    visit::fill_both(from, to, &mut head, &mut next, &mut head_in, &mut next_in);
+    graph::link_leaving(to, from, &mut head_in, &mut next_in);
     let mut cluster_costs = [0u32; 512];
-    counts::sum_costs(row, costs, &mut cluster_costs);
-    let g = counts::cluster_count(row);
+    graph::sum_costs(row, costs, &mut cluster_costs);
+    let g = graph::cluster_count(row);
     let mut low = [0u16; 512];
     let mut high = [0u16; 512];
     let mut marks = [0u8; 512];
@@ -80,13 +82,12 @@ fn settle(
     visit::survey(from, to, table, k, g, &mut low, &mut high, &mut marks);
     let mut p = before;
     loop {
-        let moves = p.moves;
         p = pass::pass(
             from,
             to,
             width,
-            &head,
-            &next,
+            head,
+            next,
             &head_in,
             &next_in,
             &cluster_costs,
@@ -98,13 +99,13 @@ fn settle(
             table,
             p,
         );
-        if p.moves == moves {
+        if !p.moved {
             return p;
         }
     }
 }
 
-// The refinement on one row, by the lists of its edges, from a table of the vertices' parts and its sums.
+// The refinement on one row, by the lists of its edges, from a table of the vertices' parts, its sums and its cut.
 fn refine_row(
     costs: &[u16],
     starts: &[u16],
@@ -115,12 +116,15 @@ fn refine_row(
     from: &[u16],
     to: &[u16],
     width: &[u32],
+    head: &[u16; 513],
+    next: &[u16; 1024],
     parts: &mut [u16],
     before: Progress,
 ) -> Progress
     requires { ⌜ Ready (graphOf (now costs) (now starts) (now ends) (now widths)) (before .sums .count) bound (now row) (now parts) (before .moves) ⌝ }
-    requires { ⌜ SumsOf (now costs) (now parts) (before .sums .count) (before .sums) ⌝ }
+    requires { ⌜ Tracks (graphOf (now costs) (now starts) (now ends) (now widths)) (now parts) (before .sums .count) (before .sums) (before .cut) ⌝ }
     requires { ⌜ Coarse (graphOf (now costs) (now starts) (now ends) (now widths)) (now row) (clusters (now row)) (now from) (now to) (now width) ⌝ }
+    requires { ⌜ Linked (leave (joining (now from) (now to))) (length (now from)) (now head) (now next) ⌝ }
     ensures { λ r. ⌜ RefinedRow (graphOf (now (costs .entry)) (now (starts .entry)) (now (ends .entry)) (now (widths .entry))) (before .sums .count) bound (now (row .entry)) (now (parts .entry)) (before .moves) (now (parts .exit)) r ⌝ }
 {
     let mut table = [0u16; 512];
@@ -135,6 +139,8 @@ fn refine_row(
         from,
         to,
         width,
+        head,
+        next,
         &mut table,
         before,
     );
@@ -154,13 +160,16 @@ fn refine_at(
     to: &[u16],
     width: &[u32],
     sizes: &[u16; 9],
+    head: &[u16; 513],
+    next: &[u16; 1024],
     r: usize,
     parts: &mut [u16],
     before: Progress,
 ) -> Progress
     requires { ⌜ Ready (graphOf (now costs) (now starts) (now ends) (now widths)) (before .sums .count) bound (rowsIn (now rows) (length (now costs)) r) (now parts) (before .moves) ⌝ }
-    requires { ⌜ SumsOf (now costs) (now parts) (before .sums .count) (before .sums) ⌝ }
+    requires { ⌜ Tracks (graphOf (now costs) (now starts) (now ends) (now widths)) (now parts) (before .sums .count) (before .sums) (before .cut) ⌝ }
     requires { ⌜ Stored (graphOf (now costs) (now starts) (now ends) (now widths)) (rowsIn (now rows) (length (now costs))) r (length (now starts)) (now from) (now to) (now width) (now sizes) ⌝ }
+    requires { ⌜ LinkedAt (length (now starts)) r (now from) (now to) (now sizes) (now head) (now next) ⌝ }
     requires { ⌜ (suc r * length (now costs) ≤ length (now rows)) × (r < 9) × (length (now sizes) ≡ 9) ⌝ }
     ensures { λ q. ⌜ RefinedRow (graphOf (now (costs .entry)) (now (starts .entry)) (now (ends .entry)) (now (widths .entry))) (before .sums .count) bound (rowsIn (now (rows .entry)) (length (now (costs .entry))) r) (now (parts .entry)) (before .moves) (now (parts .exit)) q ⌝ }
 {
@@ -179,12 +188,44 @@ fn refine_at(
         &from[b..e],
         &to[b..e],
         &width[b..e],
+        head,
+        next,
         parts,
         before,
     )
 }
 
-// The refinement on a rung and then on each lower one. The record of sums goes from row to row.
+// Fills the links for row r, whose lists lie from r × m on, where this is not the rung for which they are lent.
+fn link_row(
+    m: usize,
+    from: &[u16],
+    to: &[u16],
+    sizes: &[u16; 9],
+    rung: usize,
+    r: usize,
+    head: &mut [u16; 513],
+    next: &mut [u16; 1024],
+)
+    requires { ⌜ RowLists m r (now from) (now to) (now sizes) ⌝ }
+    requires { ⌜ (r < 9) × (length (now sizes) ≡ 9) × (length (now next) ≡ 1024) ⌝ }
+    requires { ⌜ (r ≡ rung → LinkedAt m r (now from) (now to) (now sizes) (now head) (now next)) ⌝ }
+    ensures { λ _. ⌜ LinkedAt m r (now (from .entry)) (now (to .entry)) (now (sizes .entry)) (now (head .exit)) (now (next .exit)) ⌝ }
+{
+    if r == rung {
+        return;
+    }
+    let a = r * m;
+    let e = a + folds::wide(sizes[r]);
+    graph::link_leaving(&from[a..e], &to[a..e], head, next);
+}
+
+// What a refinement answers.
+pub struct Outcome {
+    pub cut: u32,
+    pub moves: usize,
+}
+
+// The refinement on a rung and then on each lower one. The sums and the cut go from row to row.
 fn refine_down(
     costs: &[u16],
     starts: &[u16],
@@ -197,22 +238,31 @@ fn refine_down(
     to: &[u16],
     width: &[u32],
     sizes: &[u16; 9],
+    head: &mut [u16; 513],
+    next: &mut [u16; 1024],
     rung: usize,
+    cut: u32,
     parts: &mut [u16],
-) -> usize
+) -> Outcome
     requires { ⌜ Descends (graphOf (now costs) (now starts) (now ends) (now widths)) k bound (now rows) rung (now parts) ⌝ }
     requires { ⌜ Stored (graphOf (now costs) (now starts) (now ends) (now widths)) (rowsIn (now rows) (length (now costs))) rung (length (now starts)) (now from) (now to) (now width) (now sizes) ⌝ }
+    requires { ⌜ LinkedAt (length (now starts)) rung (now from) (now to) (now sizes) (now head) (now next) ⌝ }
     requires { ⌜ (rung < 9) × (length (now sizes) ≡ 9) ⌝ }
-    ensures { λ r. ⌜ tallyOf (now (parts .exit)) r ≡ refined (graphOf (now (costs .entry)) (now (starts .entry)) (now (ends .entry)) (now (widths .entry))) k bound (rowsIn (now (rows .entry)) (length (now (costs .entry)))) rung (now (parts .entry)) ⌝ }
+    requires { ⌜ cut ≡ cutOf (graphOf (now costs) (now starts) (now ends) (now widths)) (now parts) ⌝ }
+    ensures { λ r. ⌜ tallyOf (now (parts .exit)) (r .moves) ≡ refined (graphOf (now (costs .entry)) (now (starts .entry)) (now (ends .entry)) (now (widths .entry))) k bound (rowsIn (now (rows .entry)) (length (now (costs .entry)))) rung (now (parts .entry)) ⌝ }
+    ensures { λ r. ⌜ r .cut ≡ cutOf (graphOf (now (costs .entry)) (now (starts .entry)) (now (ends .entry)) (now (widths .entry))) (now (parts .exit)) ⌝ }
 {
     let sums = PartSums::of_table(costs, parts, k);
     let mut p = Progress {
         sums: sums,
+        cut: cut,
         moves: 0,
+        moved: false,
     };
     let mut r = rung + 1;
     while r > 0 {
         r -= 1;
+        link_row(starts.len(), from, to, sizes, rung, r, head, next);
         p = refine_at(
             costs,
             starts,
@@ -224,22 +274,21 @@ fn refine_down(
             to,
             width,
             sizes,
+            head,
+            next,
             r,
             parts,
             p,
         );
     }
-    p.moves
+    Outcome {
+        cut: p.cut,
+        moves: p.moves,
+    }
 }
 
-// What a refinement answers.
-pub struct Outcome {
-    pub cut: u32,
-    pub moves: usize,
-}
-
-// The refinement of a table from a rung of the ladder down to the vertices, by the stored lists of the rungs' edges. Entries past the
-// vertices are untouched.
+// The refinement of a table, whose cut is given, from a rung of the ladder down to the vertices, by the stored lists of the rungs' edges and
+// the links of that rung's edges. The links are written over; entries of the table past the vertices are untouched.
 pub fn refine(
     costs: &[u16],
     starts: &[u16],
@@ -252,17 +301,22 @@ pub fn refine(
     to: &[u16],
     width: &[u32],
     sizes: &[u16; 9],
+    head: &mut [u16; 513],
+    next: &mut [u16; 1024],
     rung: usize,
+    cut: u32,
     table: &mut [u16],
 ) -> Outcome
     requires { ⌜ length (now costs) ≤ length (now table) ⌝ }
     requires { ⌜ Descends (graphOf (now costs) (now starts) (now ends) (now widths)) k bound (now rows) rung (take (length (now costs)) (now table)) ⌝ }
     requires { ⌜ Stored (graphOf (now costs) (now starts) (now ends) (now widths)) (rowsIn (now rows) (length (now costs))) rung (length (now starts)) (now from) (now to) (now width) (now sizes) ⌝ }
+    requires { ⌜ LinkedAt (length (now starts)) rung (now from) (now to) (now sizes) (now head) (now next) ⌝ }
     requires { ⌜ (rung < 9) × (length (now sizes) ≡ 9) ⌝ }
+    requires { ⌜ cut ≡ cutOf (graphOf (now costs) (now starts) (now ends) (now widths)) (take (length (now costs)) (now table)) ⌝ }
     ensures { λ r. ⌜ Refined (graphOf (now (costs .entry)) (now (starts .entry)) (now (ends .entry)) (now (widths .entry))) k bound (now (rows .entry)) rung (now (table .entry)) (now (table .exit)) r ⌝ }
 {
     let n = costs.len();
-    let moves = refine_down(
+    refine_down(
         costs,
         starts,
         ends,
@@ -274,12 +328,10 @@ pub fn refine(
         to,
         width,
         sizes,
+        head,
+        next,
         rung,
+        cut,
         &mut table[..n],
-    );
-    let cut = graph::cut_of(&table[..n], starts, ends, widths);
-    Outcome {
-        cut: cut,
-        moves: moves,
-    }
+    )
 }

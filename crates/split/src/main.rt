@@ -37,12 +37,12 @@ fn split(costs: &[u16], starts: &[u16], ends: &[u16], widths: &[u16], k: usize, 
         &mut table,
         &mut ladder,
     ) {
-        Partitioned::Parted(cut, rounds, rung, moves) => {
+        Partitioned::Parted(s) => {
             say_split(
-                cut,
-                rounds,
-                rung,
-                moves,
+                s.cut,
+                s.rounds,
+                s.rung,
+                s.moves,
                 reasons::front::numbers(&table, costs.len()),
             );
         }

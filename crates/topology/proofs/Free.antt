@@ -1,20 +1,19 @@
 -- What an order takes lies on no cycle, nor what the order of the edges turned round takes.
 use Prim.Native.Nat.{ℕ, _+_, _≤_, _<_}
 use mathlib.Core.Path.{_≡_, refl, sym, ap, _∙_}
-use mathlib.Core.Bool.{Bool, true, false, not}
-use mathlib.Core.Logic.{_⊎_, inl, inr}
+use mathlib.Core.Bool.{true, false}
+use mathlib.Core.Logic.{inl, inr}
 use mathlib.Core.List.{List}
 use native.Mathlib.Omega.{arith}
-use lib.Dec.{eqb}
-use lib.ListN.{length, getD, set, length-set, length-append, List·getD-append}
-use lib.Seq.{getD-set-same, getD-set-other}
+use lib.ListN.{length, getD, set, length-set, List·getD-append}
+use lib.Seq.{getD-set-other}
 use borrow.Author.Tests.{ne-eqb}
 use Rattle.folds.specs.Fold.{over, zeros}
 use Rattle.folds.proofs.Cases.{no-bool, by, either, eq-or-ne}
-use Rattle.folds.proofs.Lists.{getD-zeros, length-zeros}
+use Rattle.folds.proofs.Lists.{getD-zeros}
 use Rattle.graph.specs.Walk.{Walk, one, more}
-use Rattle.graph.specs.Graph.{Arcs, arcs, Edge, Inside}
-use Rattle.graph.specs.Links.{Joins}
+use Rattle.graph.specs.Graph.{Arcs, joining, Edge, Inside}
+use Rattle.graph.specs.Links.{Ended}
 use Rattle.graph.proofs.Walks.{ahead}
 use Rattle.graph.proofs.Edges.{arc-edge, edge-arc, edge-other}
 use Rattle.topology.specs.Order.{orderOf}
@@ -41,25 +40,29 @@ walk-back : {E F : ℕ → ℕ → Type 0} {a b : ℕ} → ((x y : ℕ) → E x 
 walk-back f (one e) = one (f _ _ e)
 walk-back f (more w e) = ahead (f _ _ e) (walk-back f w)
 
-module _ (row starts ends : List ℕ) (same : length ends ≡ length starts) where
-  edge-turned : (a b : ℕ) → Edge (arcs row starts ends) a b → Edge (arcs row ends starts) b a
+module _ (starts ends : List ℕ) (same : length ends ≡ length starts) where
+  edge-turned : (a b : ℕ) → Edge (joining starts ends) a b → Edge (joining ends starts) b a
   edge-turned a b e =
-      let (j, l, ea, eb) = edge-arc (arcs row starts ends) a b e in
-      let t = arc-edge (arcs row ends starts) j (omega arith) (λ q. edge-other (arcs row starts ends) a b e (sym ea ∙ sym q ∙ eb)) in
+      let (j, l, ea, eb) = edge-arc (joining starts ends) a b e in
+      let t = arc-edge (joining ends starts) j (omega arith) (λ q. edge-other (joining starts ends) a b e (sym ea ∙ sym q ∙ eb)) in
       rw (ea, eb) at t
 
 not-on : (A : Arcs) (g v : ℕ) → (Walk (Edge A) v v → ⊥) → onCycle A g v ≡ false
 not-on A g v n = by (onCycle A g v) (λ t. absurd (n (on-cycle-walk A g v t))) (λ f. f)
 
-pub inside-turned : {row starts ends : List ℕ} (g : ℕ) → Joins row starts ends → Inside (arcs row starts ends) g → Inside (arcs row ends starts) g
+-- the edges turned round
+pub ended-back : {starts ends : List ℕ} → Ended starts ends → Ended ends starts
+ended-back E = record { from = E .to; to = E .from; same = sym (E .same) }
+
+pub inside-turned : {starts ends : List ℕ} (g : ℕ) → Ended starts ends → Inside (joining starts ends) g → Inside (joining ends starts) g
 inside-turned g J inside j l = let (a, b) = inside j (omega (arith, J .same)) in (b, a)
 
-pub off-cycles : {row starts ends : List ℕ} (g : ℕ) → Joins row starts ends → Inside (arcs row starts ends) g → {taken turned a₀ a₁ a₂ : List ℕ} {count back : ℕ}
-    → Ordering (arcs row starts ends) g taken count → Ordering (arcs row ends starts) g turned back → ((v : ℕ) → marked a₀ v ≡ true → ⊥)
-    → SetAside taken count a₀ a₁ → SetAside turned back a₁ a₂ → OffCycles (arcs row starts ends) g a₂
-off-cycles {row} {starts} {ends} g J inside O P none S T =
-    let A = arcs row starts ends in
-    let B = arcs row ends starts in
+pub off-cycles : {starts ends : List ℕ} (g : ℕ) → Ended starts ends → Inside (joining starts ends) g → {taken turned a₀ a₁ a₂ : List ℕ} {count back : ℕ}
+    → Ordering (joining starts ends) g taken count → Ordering (joining ends starts) g turned back → ((v : ℕ) → marked a₀ v ≡ true → ⊥)
+    → SetAside taken count a₀ a₁ → SetAside turned back a₁ a₂ → OffCycles (joining starts ends) g a₂
+off-cycles {starts} {ends} g J inside O P none S T =
+    let A = joining starts ends in
+    let B = joining ends starts in
     record {
       tall = T .tall;
       off = λ v t.
@@ -69,7 +72,7 @@ off-cycles {row} {starts} {ends} g J inside O P none S T =
           (λ s. either (S .from v s) (none v) (λ x. let (i, l, e) = x in taken-free A g inside i (omega (arith, O .count)) (rw (sym (O .is i l) ∙ e) w)))
           (λ x.
           let (i, l, e) = x in
-          taken-free B g (inside-turned g J inside) i (omega (arith, P .count)) (rw (sym (P .is i l) ∙ e) (walk-back (edge-turned row starts ends (J .same)) w))));
+          taken-free B g (inside-turned g J inside) i (omega (arith, P .count)) (rw (sym (P .is i l) ∙ e) (walk-back (edge-turned starts ends (J .same)) w))));
     }
 
 -- the front of what an order was written over

@@ -1,6 +1,6 @@
 -- The laws of levels: a level is the number of edges on the longest path that ends there.
 use Prim.Native.Nat.{ℕ, zero, suc, _+_, _<_, _≤_}
-use mathlib.Core.Path.{_≡_, refl, sym, ap, _∙_}
+use mathlib.Core.Path.{_≡_, refl, _∙_}
 use mathlib.Core.Bool.{Bool, true, false, not, _&&_}
 use mathlib.Core.List.{List}
 use native.Mathlib.Nat.{le-of-suc-le-suc}
@@ -8,12 +8,12 @@ use native.Mathlib.Omega.{arith}
 use lib.Dec.{eqb}
 use lib.ListN.{length, getD}
 use borrow.Author.Tests.{eqb-true, eqb-false, eq-eqb, ne-eqb}
-use Rattle.folds.specs.Fold.{when, maxTo, listTo, zeros}
-use Rattle.folds.proofs.Cases.{by, either, both, not-yes}
+use Rattle.folds.specs.Fold.{when, maxTo}
+use Rattle.folds.proofs.Cases.{either, both, not-yes}
 use Rattle.folds.proofs.Searches.{max-ge, max-at}
 use Rattle.folds.proofs.Lists.{getD-listTo, getD-zeros, length-listTo, length-zeros}
 use Rattle.graph.specs.Walk.{Path, here, step, Acyclic}
-use Rattle.graph.specs.Graph.{Arcs, edge, Edge, Inside}
+use Rattle.graph.specs.Graph.{Arcs, Edge, Inside}
 use Rattle.graph.proofs.Walks.{path-short}
 use Rattle.graph.proofs.Edges.{arc-edge, edge-arc, edge-other, edge-inside}
 use Rattle.topology.specs.Level.{rise, levelsAfter, levelsOf, level}

@@ -8,7 +8,7 @@ use native.Mathlib.Omega.{arith}
 use lib.Dec.{eqb, ltb}
 use lib.ListN.{length, getD, set, replicate, length-set}
 use lib.Seq.{getD-set-same, getD-set-other}
-use borrow.Author.Tests.{eqb-true, eq-eqb, ne-eqb, lt-ltb, le-ltb, ltb-true}
+use borrow.Author.Tests.{eqb-true, eq-eqb, ne-eqb, lt-ltb, le-ltb}
 use Rattle.folds.specs.Fold.{pick, when, firstTo, zeros}
 use Rattle.folds.proofs.Cases.{either, eq-or-ne, both, and-false}
 use Rattle.folds.proofs.Searches.{firstTo-hit, firstTo-below, firstTo-found, firstTo-all}

@@ -9,14 +9,14 @@ use native.Mathlib.Omega.{arith}
 use lib.Dec.{eqb, ltb}
 use lib.ListN.{length, getD, set, length-set}
 use lib.Seq.{getD-set-same, getD-set-other}
-use borrow.Author.Tests.{eqb-true, eqb-false, eq-eqb, ne-eqb, ltb-true, ltb-false, lt-ltb, le-ltb}
+use borrow.Author.Tests.{eqb-true, eqb-false, eq-eqb, ne-eqb, ltb-true, ltb-false}
 use Rattle.folds.specs.Fold.{when, sumTo, countTo, firstTo, anyTo, zeros}
-use Rattle.folds.proofs.Cases.{no-bool, by, either, eq-or-ne, last-or, both, both-i, not-yes, not-no}
+use Rattle.folds.proofs.Cases.{no-bool, by, either, eq-or-ne, both, not-yes, not-no}
 use Rattle.folds.proofs.Sums.{with, countTo-le, countTo-with, countTo-all, countTo-ext, sumTo-member, sumTo-none}
 use Rattle.folds.proofs.Searches.{firstTo-le, firstTo-hit, firstTo-least, firstTo-none, any-e, any-none}
 use Rattle.folds.proofs.Lists.{getD-zeros, length-zeros}
 use Rattle.graph.specs.Walk.{Walk, Cycle, Acyclic}
-use Rattle.graph.specs.Graph.{Arcs, edge, Edge, Inside}
+use Rattle.graph.specs.Graph.{Arcs, Edge, Inside}
 use Rattle.graph.proofs.Walks.{rank-law, with-next}
 use Rattle.graph.proofs.Edges.{arc-edge, edge-arc, edge-other, edge-inside}
 use Rattle.topology.specs.Order.{waits, ready, orNone, orderFrom, orderOf, placeIn}

@@ -1,5 +1,5 @@
 -- What is reached is what a walk goes to, and on a cycle is what a walk comes back to, both ways.
-use Prim.Native.Nat.{ℕ, zero, suc, _+_, _≤_, _<_}
+use Prim.Native.Nat.{ℕ, zero, suc, _≤_, _<_}
 use mathlib.Core.Path.{_≡_, refl, sym, ap, _∙_}
 use mathlib.Core.Bool.{Bool, true, false, not, _&&_, _||_}
 use mathlib.Core.Logic.{_⊎_, inl, inr}
@@ -10,8 +10,8 @@ use lib.ListN.{length, getD}
 use borrow.Author.Tests.{eqb-true, eqb-false, eq-eqb, ne-eqb, ltb-true, ltb-false}
 use Rattle.folds.specs.Fold.{when, countTo, firstTo, anyTo, listTo}
 use Rattle.folds.proofs.Cases.{no-bool, by, either, one-of, or-l, or-r, both, both-i, not-yes, same-test}
-use Rattle.folds.proofs.Sums.{countTo-le, countTo-ext, countTo-grows}
-use Rattle.folds.proofs.Searches.{firstTo-hit, firstTo-below, firstTo-least, firstTo-all, any-i, any-e, any-none}
+use Rattle.folds.proofs.Sums.{countTo-le, countTo-grows}
+use Rattle.folds.proofs.Searches.{firstTo-hit, firstTo-least, firstTo-all, any-i, any-e, any-none}
 use Rattle.folds.proofs.Lists.{getD-listTo, length-listTo, listTo-ext, getD-past}
 use Rattle.graph.specs.Walk.{Walk, one, more, Cycle, Acyclic}
 use Rattle.graph.specs.Graph.{Arcs, edge, Edge, Inside}

@@ -1,25 +1,33 @@
--- Order and levels depend only on which clusters are joined, not on the edges that join them, nor on the length of a list of marks.
+-- Order, levels and the lowest on a cycle depend only on which clusters are joined, not on the edges that join them, nor on the length of a list of marks.
 use Prim.Native.Nat.{ℕ, zero, suc, _≤_, _<_}
 use mathlib.Core.Path.{_≡_, refl, sym, ap, _∙_}
-use mathlib.Core.Bool.{Bool, true, false, not, _&&_}
+use mathlib.Core.Bool.{Bool, true, not, _&&_}
 use mathlib.Core.List.{List, _∷_}
 use native.Mathlib.Omega.{arith}
 use lib.Dec.{eqb, ltb}
 use lib.ListN.{length, getD, set, length-set}
 use lib.Seq.{getD-set-same, getD-set-other}
-use borrow.Author.Tests.{eqb-true, eqb-false, eq-eqb, ne-eqb, ltb-true}
-use Rattle.folds.specs.Fold.{when, anyTo, firstTo, maxTo, listTo, zeros}
-use Rattle.folds.proofs.Cases.{by, either, both, both-i, same-test, not-yes, eq-or-ne}
+use borrow.Author.Tests.{eqb-true, eqb-false, eq-eqb, ltb-true}
+use Rattle.folds.specs.Fold.{when, anyTo, firstTo, maxTo, zeros}
+use Rattle.folds.proofs.Cases.{by, either, both, same-test, not-yes, eq-or-ne}
 use Rattle.folds.proofs.Searches.{any-i, any-e, any-ext, firstTo-ext, max-ge, max-le}
 use Rattle.folds.proofs.Lists.{listTo-ext, getD-zeros, length-zeros}
-use Rattle.graph.specs.Graph.{Arcs, edge, Edge}
-use Rattle.graph.proofs.Edges.{arc-edge, edge-arc, edge-other}
+use Rattle.graph.specs.Graph.{Arcs, edge, Edge, Inside}
+use Rattle.graph.proofs.Walks.{walk-map}
+use Rattle.graph.proofs.Edges.{arc-edge, edge-arc, edge-same}
 use Rattle.topology.specs.Order.{waits, ready, orNone, orderFrom, orderOf}
 use Rattle.topology.specs.Level.{rise, levelsAfter, levelsOf}
+use Rattle.topology.specs.Reach.{onCycle, lowestOnCycle}
+use Rattle.topology.proofs.Reaches.{on-cycle-walk, walk-on-cycle}
 
 -- the same clusters are joined
 abbrev pub Same : Arcs → Arcs → Type 0
 Same A B = (a b : ℕ) → edge A a b ≡ edge B a b
+
+-- the same edges one by one join the same clusters
+pub same-edges : (A B : Arcs) → A .count ≡ B .count → ((j : ℕ) → j < A .count → (A .from j ≡ B .from j) × (A .to j ≡ B .to j)) → Same A B
+same-edges A B n h a b =
+    same-test _ _ (edge-same A B n h a b) (edge-same B A (sym n) (λ j l. let (f, t) = h j (omega arith) in (sym f, sym t)) a b)
 
 -- an edge of A into v is one of B
 moved : (A B : Arcs) → Same A B → (v j : ℕ) → j < A .count → A .to j ≡ v → (A .from j ≡ v → ⊥) → (i : ℕ) × (i < B .count) × (B .from i ≡ A .from j) × (B .to i ≡ v)
@@ -104,3 +112,12 @@ after-same A B S g (suc r) =
 pub levels-same : (A B : Arcs) → Same A B → (g : ℕ) → levelsOf A g ≡ levelsOf B g
 unfolding levelsOf
 levels-same A B S g = after-same A B S g g
+
+-- the lowest on a cycle
+on-cycle-there : (A B : Arcs) → Same A B → (g : ℕ) → Inside B g → (v : ℕ) → onCycle A g v ≡ true → onCycle B g v ≡ true
+on-cycle-there A B S g inside v t = walk-on-cycle B g inside v (walk-map (λ a b e. sym (S a b) ∙ e) (on-cycle-walk A g v t))
+
+pub lowest-same : (A B : Arcs) → Same A B → (g : ℕ) → Inside A g → Inside B g → lowestOnCycle A g ≡ lowestOnCycle B g
+unfolding lowestOnCycle
+lowest-same A B S g ia ib =
+    firstTo-ext g _ _ (λ v _. same-test _ _ (on-cycle-there A B S g ib v) (on-cycle-there B A (λ a b. sym (S a b)) g ia v))

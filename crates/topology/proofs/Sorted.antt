@@ -1,17 +1,17 @@
 -- Where every edge goes from a lower to a higher number, the topological order is that of the numbers.
 use Prim.Native.Nat.{ℕ, zero, suc, _+_, _≤_, _<_}
 use mathlib.Core.Path.{_≡_, refl, sym, ap, ap₂, _∙_}
-use mathlib.Core.Bool.{Bool, true, false, not, _&&_}
+use mathlib.Core.Bool.{true, not}
 use mathlib.Core.List.{List, [], _∷_, _++_}
 use native.Mathlib.Nat.{add-zero}
 use native.Mathlib.Omega.{arith}
-use lib.Dec.{eqb, ltb}
+use lib.Dec.{eqb}
 use lib.ListN.{length, getD, set, length-set}
 use lib.Seq.{getD-set-same, getD-set-other}
 use borrow.Author.Tests.{eq-eqb, ne-eqb, lt-ltb, eqb-true}
 use Rattle.folds.specs.Fold.{firstTo, anyTo, listTo, zeros}
-use Rattle.folds.proofs.Cases.{by, either, eq-or-ne, both, not-yes, no-bool}
-use Rattle.folds.proofs.Searches.{firstTo-found, firstTo-all, any-e, any-none}
+use Rattle.folds.proofs.Cases.{by, either, eq-or-ne, both, no-bool}
+use Rattle.folds.proofs.Searches.{firstTo-found, firstTo-all, any-e}
 use Rattle.folds.proofs.Lists.{getD-zeros, length-zeros, listTo-ext}
 use Rattle.graph.specs.Graph.{Arcs, identity}
 use Rattle.topology.specs.Order.{waits, ready, orNone, orderFrom, orderOf}

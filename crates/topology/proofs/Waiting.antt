@@ -1,23 +1,23 @@
 -- Counts of the edges that wait give the order: a cluster is ready where its count is 0.
-use Prim.Native.Nat.{ℕ, zero, suc, _+_, _-_, _≤_, _<_}
+use Prim.Native.Nat.{ℕ, suc, _+_, _-_, _≤_, _<_}
 use mathlib.Core.Path.{_≡_, refl, sym, ap, _∙_}
 use mathlib.Core.Bool.{Bool, true, false, not, _&&_}
 use mathlib.Core.List.{List, [], _∷_}
 use native.Mathlib.Omega.{arith}
-use lib.Dec.{eqb, ltb}
-use lib.ListN.{length, getD, set, length-set}
+use lib.Dec.{eqb}
+use lib.ListN.{length, getD, set}
 use lib.Seq.{getD-set-same, getD-set-other}
-use borrow.Author.Tests.{eqb-true, eqb-false, eq-eqb, ne-eqb, lt-ltb, le-ltb}
-use Rattle.folds.specs.Fold.{when, sumTo, countTo, firstTo, anyTo, zeros}
-use Rattle.folds.proofs.Cases.{either, eq-or-ne, both, when-le, when-zero, and-false, and-true}
+use borrow.Author.Tests.{eq-eqb, ne-eqb, lt-ltb, le-ltb}
+use Rattle.folds.specs.Fold.{when, sumTo, countTo, firstTo, zeros}
+use Rattle.folds.proofs.Cases.{either, eq-or-ne, when-le, when-zero, and-true}
 use Rattle.folds.proofs.Sums.{sumTo-step, sumTo-less, sumTo-ext, sumTo-add}
-use Rattle.folds.proofs.Searches.{firstTo-zero, firstTo-hit, firstTo-below, firstTo-ext, firstTo-skip, count-none}
-use Rattle.folds.proofs.Lists.{getD-zeros, set-sub}
+use Rattle.folds.proofs.Searches.{firstTo-ext, count-none}
+use Rattle.folds.proofs.Lists.{getD-zeros}
 use Rattle.graph.specs.Graph.{Arcs}
 use Rattle.graph.specs.Links.{Linked, leave}
 use Rattle.graph.proofs.Links.{leave-from, stays, Only, On, sum-on, sum-next}
 use Rattle.topology.specs.Order.{waits, ready, orNone, orderFrom}
-use Rattle.topology.specs.Counts.{left, cross, gone, Counted, Settled, Passed, Released, Across, free}
+use Rattle.topology.specs.Counts.{left, cross, gone, Counted, Passed, Released, Across, free}
 
 module _ (A : Arcs) where
   pub left-le : (marks : List ℕ) (v j : ℕ) → left A marks v j ≤ 1

@@ -6,8 +6,8 @@ ghost use Prim.Native.Nat.{ℕ, _+_, _<_, _≤_};
 ghost use lib.ListN.{length, getD};
 ghost use Rattle.folds.specs.Fold.{pick, sumTo, over, zeros};
 ghost use Rattle.graph.specs.Walk.{Walk};
-ghost use Rattle.graph.specs.Graph.{arcs, Edge, Inside};
-ghost use Rattle.graph.specs.Links.{Linked, Joins, leave};
+ghost use Rattle.graph.specs.Graph.{joining, Edge, Inside};
+ghost use Rattle.graph.specs.Links.{Linked, Ended, leave};
 ghost use Rattle.topology.specs.Order.{orderOf};
 ghost use Rattle.topology.specs.Reach.{onCycle, lowestOnCycle};
 ghost use Rattle.topology.specs.Search.{marked, Queued, Spread, Entered, OffCycles, SetAside, Ordering};
@@ -16,26 +16,26 @@ ghost use Rattle.pool.specs.Pool.{Kept, putOf};
 ghost use lib.Dec.{eqb};
 
 // 1 where edge j goes from one cluster to another, else 0.
-fn across(row: &[u16], starts: &[u16], ends: &[u16], j: usize) -> u16
-    requires { ⌜ Joins (now row) (now starts) (now ends) ⌝ }
+fn across(starts: &[u16], ends: &[u16], j: usize) -> u16
+    requires { ⌜ Ended (now starts) (now ends) ⌝ }
     requires { ⌜ j < length (now starts) ⌝ }
-    ensures { λ r. ⌜ Across (arcs (now (row .entry)) (now (starts .entry)) (now (ends .entry))) j r ⌝ }
+    ensures { λ r. ⌜ Across (joining (now (starts .entry)) (now (ends .entry))) j r ⌝ }
 {
-    let a = graph::cluster(row, starts, j);
-    let b = graph::cluster(row, ends, j);
+    let a = graph::end_at(starts, j);
+    let b = graph::end_at(ends, j);
     if a == b { 0 } else { 1 }
 }
 
 // How many edges from other clusters go into each.
-fn counts(row: &[u16], starts: &[u16], ends: &[u16], count: &mut [u16; 512])
-    requires { ⌜ Joins (now row) (now starts) (now ends) ⌝ }
-    ensures { λ _. ⌜ Counted (arcs (now (row .entry)) (now (starts .entry)) (now (ends .entry))) (zeros 512) (now (count .exit)) ⌝ }
+fn counts(starts: &[u16], ends: &[u16], count: &mut [u16; 512])
+    requires { ⌜ Ended (now starts) (now ends) ⌝ }
+    ensures { λ _. ⌜ Counted (joining (now (starts .entry)) (now (ends .entry))) (zeros 512) (now (count .exit)) ⌝ }
 {
     *count = [0; 512];
     let mut j: usize = 0;
     while j < starts.len() {
-        let b = graph::cluster(row, ends, j);
-        let w = across(row, starts, ends, j);
+        let b = graph::end_at(ends, j);
+        let w = across(starts, ends, j);
         count[b] = count[b] + w;
         j += 1;
     }
@@ -83,7 +83,6 @@ fn pass(u: usize, b: usize, g: usize, count: &mut [u16; 512], pool: &mut [u64; 9
 
 // Takes the edges of u off the counts, and puts what then waits for nothing into the pool.
 fn release(
-    row: &[u16],
     starts: &[u16],
     ends: &[u16],
     head: &[u16; 513],
@@ -93,17 +92,17 @@ fn release(
     count: &mut [u16; 512],
     pool: &mut [u64; 9],
 )
-    requires { ⌜ Joins (now row) (now starts) (now ends) ⌝ }
-    requires { ⌜ Linked (leave (arcs (now row) (now starts) (now ends))) (length (now starts)) (now head) (now next) ⌝ }
+    requires { ⌜ Ended (now starts) (now ends) ⌝ }
+    requires { ⌜ Linked (leave (joining (now starts) (now ends))) (length (now starts)) (now head) (now next) ⌝ }
     requires { ⌜ u < 512 ⌝ }
     requires { ⌜ (length (now count) ≡ 512) × (length (now pool) ≡ 9) ⌝ }
-    requires { ⌜ ((v : ℕ) → v < 512 → sumTo (length (now starts)) (gone (arcs (now row) (now starts) (now ends)) u v) ≤ getD (now count) v 0) ⌝ }
-    ensures { λ _. ⌜ Released (arcs (now (row .entry)) (now (starts .entry)) (now (ends .entry))) u (length (now (starts .entry))) g (now (count .entry)) (now (pool .entry)) (now (count .exit)) (now (pool .exit)) ⌝ }
+    requires { ⌜ ((v : ℕ) → v < 512 → sumTo (length (now starts)) (gone (joining (now starts) (now ends)) u v) ≤ getD (now count) v 0) ⌝ }
+    ensures { λ _. ⌜ Released (joining (now (starts .entry)) (now (ends .entry))) u (length (now (starts .entry))) g (now (count .entry)) (now (pool .entry)) (now (count .exit)) (now (pool .exit)) ⌝ }
 {
     let m = starts.len();
     let mut j = folds::wide(head[u]);
     while j < m {
-        let b = graph::cluster(row, ends, j);
+        let b = graph::end_at(ends, j);
         pass(u, b, g, count, pool);
         j = folds::wide(next[j]);
     }
@@ -111,7 +110,6 @@ fn release(
 
 // Writes the clusters in topological order to the front of out, by the lists of the edges that leave each, and answers how many it took.
 pub fn order_by(
-    row: &[u16],
     starts: &[u16],
     ends: &[u16],
     head: &[u16; 513],
@@ -119,16 +117,16 @@ pub fn order_by(
     g: usize,
     out: &mut [u16],
 ) -> usize
-    requires { ⌜ Joins (now row) (now starts) (now ends) ⌝ }
-    requires { ⌜ Linked (leave (arcs (now row) (now starts) (now ends))) (length (now starts)) (now head) (now next) ⌝ }
+    requires { ⌜ Ended (now starts) (now ends) ⌝ }
+    requires { ⌜ Linked (leave (joining (now starts) (now ends))) (length (now starts)) (now head) (now next) ⌝ }
     requires { ⌜ (g ≤ 512) × (g ≤ length (now out)) ⌝ }
-    ensures { λ r. ⌜ r ≡ length (orderOf (arcs (now (row .entry)) (now (starts .entry)) (now (ends .entry))) g) ⌝ }
-    ensures { λ r. ⌜ now (out .exit) ≡ over (orderOf (arcs (now (row .entry)) (now (starts .entry)) (now (ends .entry))) g) (now (out .entry)) ⌝ }
+    ensures { λ r. ⌜ r ≡ length (orderOf (joining (now (starts .entry)) (now (ends .entry))) g) ⌝ }
+    ensures { λ r. ⌜ now (out .exit) ≡ over (orderOf (joining (now (starts .entry)) (now (ends .entry))) g) (now (out .entry)) ⌝ }
 {
     let mut count = [0u16; 512];
     let mut marks = [0u8; 512];
     let mut pool = [0u64; 9];
-    counts(row, starts, ends, &mut count);
+    counts(starts, ends, &mut count);
     gather(&count, g, &mut pool);
     let mut n: usize = 0;
     while n < g {
@@ -139,28 +137,27 @@ pub fn order_by(
         out[n] = u as u16;
         marks[u] = 1;
         pool::take(&mut pool, u);
-        release(row, starts, ends, head, next, u, g, &mut count, &mut pool);
+        release(starts, ends, head, next, u, g, &mut count, &mut pool);
         n += 1;
     }
     n
 }
 
 // Writes the clusters in topological order to the front of out, and answers how many it took.
-pub fn order(row: &[u16], starts: &[u16], ends: &[u16], g: usize, out: &mut [u16]) -> usize
-    requires { ⌜ Joins (now row) (now starts) (now ends) ⌝ }
+fn order(starts: &[u16], ends: &[u16], g: usize, out: &mut [u16]) -> usize
+    requires { ⌜ Ended (now starts) (now ends) ⌝ }
     requires { ⌜ (g ≤ 512) × (g ≤ length (now out)) ⌝ }
-    ensures { λ r. ⌜ r ≡ length (orderOf (arcs (now (row .entry)) (now (starts .entry)) (now (ends .entry))) g) ⌝ }
-    ensures { λ r. ⌜ now (out .exit) ≡ over (orderOf (arcs (now (row .entry)) (now (starts .entry)) (now (ends .entry))) g) (now (out .entry)) ⌝ }
+    ensures { λ r. ⌜ r ≡ length (orderOf (joining (now (starts .entry)) (now (ends .entry))) g) ⌝ }
+    ensures { λ r. ⌜ now (out .exit) ≡ over (orderOf (joining (now (starts .entry)) (now (ends .entry))) g) (now (out .entry)) ⌝ }
 {
     let mut head = [0u16; 513];
     let mut next = [0u16; 1024];
-    graph::fill_leaving(row, starts, ends, &mut head, &mut next);
-    order_by(row, starts, ends, &head, &next, g, out)
+    graph::link_leaving(starts, ends, &mut head, &mut next);
+    order_by(starts, ends, &head, &next, g, out)
 }
 
 // Marks b and puts it into the queue, unless it is u or marked already. Answers how many the queue then holds.
 fn enter(
-    row: &[u16],
     starts: &[u16],
     ends: &[u16],
     v: usize,
@@ -170,10 +167,10 @@ fn enter(
     queue: &mut [u16; 512],
     n: usize,
 ) -> usize
-    requires { ⌜ Queued (arcs (now row) (now starts) (now ends)) v (now marks) (now queue) n ⌝ }
+    requires { ⌜ Queued (joining (now starts) (now ends)) v (now marks) (now queue) n ⌝ }
     requires { ⌜ b < 512 ⌝ }
-    requires { ⌜ ((b ≡ u → ⊥) → Walk (Edge (arcs (now row) (now starts) (now ends))) v b) ⌝ }
-    ensures { λ r. ⌜ Entered (arcs (now (row .entry)) (now (starts .entry)) (now (ends .entry))) v u b (now (marks .entry)) (now (queue .entry)) n (now (marks .exit)) (now (queue .exit)) r ⌝ }
+    requires { ⌜ ((b ≡ u → ⊥) → Walk (Edge (joining (now starts) (now ends))) v b) ⌝ }
+    ensures { λ r. ⌜ Entered (joining (now (starts .entry)) (now (ends .entry))) v u b (now (marks .entry)) (now (queue .entry)) n (now (marks .exit)) (now (queue .exit)) r ⌝ }
 {
     if b == u {
         return n;
@@ -188,7 +185,6 @@ fn enter(
 
 // Enters what the edges from u go to.
 fn spread(
-    row: &[u16],
     starts: &[u16],
     ends: &[u16],
     head: &[u16; 513],
@@ -199,18 +195,18 @@ fn spread(
     queue: &mut [u16; 512],
     n: usize,
 ) -> usize
-    requires { ⌜ Joins (now row) (now starts) (now ends) ⌝ }
-    requires { ⌜ Linked (leave (arcs (now row) (now starts) (now ends))) (length (now starts)) (now head) (now next) ⌝ }
-    requires { ⌜ Queued (arcs (now row) (now starts) (now ends)) v (now marks) (now queue) n ⌝ }
+    requires { ⌜ Ended (now starts) (now ends) ⌝ }
+    requires { ⌜ Linked (leave (joining (now starts) (now ends))) (length (now starts)) (now head) (now next) ⌝ }
+    requires { ⌜ Queued (joining (now starts) (now ends)) v (now marks) (now queue) n ⌝ }
     requires { ⌜ (u < 512) × ((u ≡ v) ⊎ (marked (now marks) u ≡ true)) ⌝ }
-    ensures { λ r. ⌜ Spread (arcs (now (row .entry)) (now (starts .entry)) (now (ends .entry))) v u (length (now (starts .entry))) (now (marks .entry)) (now (queue .entry)) n (now (marks .exit)) (now (queue .exit)) r ⌝ }
+    ensures { λ r. ⌜ Spread (joining (now (starts .entry)) (now (ends .entry))) v u (length (now (starts .entry))) (now (marks .entry)) (now (queue .entry)) n (now (marks .exit)) (now (queue .exit)) r ⌝ }
 {
     let m = starts.len();
     let mut count = n;
     let mut j = folds::wide(head[u]);
     while j < m {
-        let b = graph::cluster(row, ends, j);
-        count = enter(row, starts, ends, v, u, b, marks, queue, count);
+        let b = graph::end_at(ends, j);
+        count = enter(starts, ends, v, u, b, marks, queue, count);
         j = folds::wide(next[j]);
     }
     count
@@ -218,7 +214,6 @@ fn spread(
 
 // Whether a walk from v comes back to it.
 fn returns_to(
-    row: &[u16],
     starts: &[u16],
     ends: &[u16],
     head: &[u16; 513],
@@ -226,31 +221,19 @@ fn returns_to(
     g: usize,
     v: usize,
 ) -> bool
-    requires { ⌜ Joins (now row) (now starts) (now ends) ⌝ }
-    requires { ⌜ Linked (leave (arcs (now row) (now starts) (now ends))) (length (now starts)) (now head) (now next) ⌝ }
-    requires { ⌜ Inside (arcs (now row) (now starts) (now ends)) g ⌝ }
+    requires { ⌜ Ended (now starts) (now ends) ⌝ }
+    requires { ⌜ Linked (leave (joining (now starts) (now ends))) (length (now starts)) (now head) (now next) ⌝ }
+    requires { ⌜ Inside (joining (now starts) (now ends)) g ⌝ }
     requires { ⌜ v < 512 ⌝ }
-    ensures { λ r. ⌜ r ≡ onCycle (arcs (now (row .entry)) (now (starts .entry)) (now (ends .entry))) g v ⌝ }
+    ensures { λ r. ⌜ r ≡ onCycle (joining (now (starts .entry)) (now (ends .entry))) g v ⌝ }
 {
     let mut marks = [0u8; 512];
     let mut queue = [0u16; 512];
-    let mut count = spread(
-        row,
-        starts,
-        ends,
-        head,
-        next,
-        v,
-        v,
-        &mut marks,
-        &mut queue,
-        0,
-    );
+    let mut count = spread(starts, ends, head, next, v, v, &mut marks, &mut queue, 0);
     let mut i: usize = 0;
     while i < count {
         let u = folds::wide(queue[i]);
         count = spread(
-            row,
             starts,
             ends,
             head,
@@ -268,7 +251,6 @@ fn returns_to(
 
 // Whether v lies on a cycle: those set aside do not.
 fn is_on_cycle(
-    row: &[u16],
     starts: &[u16],
     ends: &[u16],
     head: &[u16; 513],
@@ -277,21 +259,20 @@ fn is_on_cycle(
     g: usize,
     v: usize,
 ) -> bool
-    requires { ⌜ Joins (now row) (now starts) (now ends) ⌝ }
-    requires { ⌜ Linked (leave (arcs (now row) (now starts) (now ends))) (length (now starts)) (now head) (now next) ⌝ }
-    requires { ⌜ Inside (arcs (now row) (now starts) (now ends)) g × OffCycles (arcs (now row) (now starts) (now ends)) g (now aside) ⌝ }
+    requires { ⌜ Ended (now starts) (now ends) ⌝ }
+    requires { ⌜ Linked (leave (joining (now starts) (now ends))) (length (now starts)) (now head) (now next) ⌝ }
+    requires { ⌜ Inside (joining (now starts) (now ends)) g × OffCycles (joining (now starts) (now ends)) g (now aside) ⌝ }
     requires { ⌜ v < 512 ⌝ }
-    ensures { λ r. ⌜ r ≡ onCycle (arcs (now (row .entry)) (now (starts .entry)) (now (ends .entry))) g v ⌝ }
+    ensures { λ r. ⌜ r ≡ onCycle (joining (now (starts .entry)) (now (ends .entry))) g v ⌝ }
 {
     if aside[v] != 0 {
         return false;
     }
-    returns_to(row, starts, ends, head, next, g, v)
+    returns_to(starts, ends, head, next, g, v)
 }
 
 // The lowest of g clusters from which a walk comes back, or g.
 fn search_cycle(
-    row: &[u16],
     starts: &[u16],
     ends: &[u16],
     head: &[u16; 513],
@@ -299,15 +280,15 @@ fn search_cycle(
     aside: &[u8; 512],
     g: usize,
 ) -> usize
-    requires { ⌜ Joins (now row) (now starts) (now ends) ⌝ }
-    requires { ⌜ Linked (leave (arcs (now row) (now starts) (now ends))) (length (now starts)) (now head) (now next) ⌝ }
-    requires { ⌜ Inside (arcs (now row) (now starts) (now ends)) g × OffCycles (arcs (now row) (now starts) (now ends)) g (now aside) ⌝ }
+    requires { ⌜ Ended (now starts) (now ends) ⌝ }
+    requires { ⌜ Linked (leave (joining (now starts) (now ends))) (length (now starts)) (now head) (now next) ⌝ }
+    requires { ⌜ Inside (joining (now starts) (now ends)) g × OffCycles (joining (now starts) (now ends)) g (now aside) ⌝ }
     requires { ⌜ g ≤ 512 ⌝ }
-    ensures { λ r. ⌜ r ≡ lowestOnCycle (arcs (now (row .entry)) (now (starts .entry)) (now (ends .entry))) g ⌝ }
+    ensures { λ r. ⌜ r ≡ lowestOnCycle (joining (now (starts .entry)) (now (ends .entry))) g ⌝ }
 {
     let mut v: usize = 0;
     while v < g {
-        if is_on_cycle(row, starts, ends, head, next, aside, g, v) {
+        if is_on_cycle(starts, ends, head, next, aside, g, v) {
             return v;
         }
         v += 1;
@@ -332,7 +313,6 @@ fn set_aside(order: &[u16; 512], n: usize, aside: &mut [u8; 512])
 // The lowest on a cycle, where the order took `count` clusters and not all: neither these nor what the order of the edges
 // turned round takes need a search.
 fn search_rest(
-    row: &[u16],
     starts: &[u16],
     ends: &[u16],
     head: &[u16; 513],
@@ -341,24 +321,23 @@ fn search_rest(
     taken: &[u16; 512],
     count: usize,
 ) -> usize
-    requires { ⌜ Joins (now row) (now starts) (now ends) ⌝ }
-    requires { ⌜ Linked (leave (arcs (now row) (now starts) (now ends))) (length (now starts)) (now head) (now next) ⌝ }
-    requires { ⌜ Inside (arcs (now row) (now starts) (now ends)) g × (g ≤ 512) ⌝ }
-    requires { ⌜ Ordering (arcs (now row) (now starts) (now ends)) g (now taken) count ⌝ }
-    ensures { λ r. ⌜ r ≡ lowestOnCycle (arcs (now (row .entry)) (now (starts .entry)) (now (ends .entry))) g ⌝ }
+    requires { ⌜ Ended (now starts) (now ends) ⌝ }
+    requires { ⌜ Linked (leave (joining (now starts) (now ends))) (length (now starts)) (now head) (now next) ⌝ }
+    requires { ⌜ Inside (joining (now starts) (now ends)) g × (g ≤ 512) ⌝ }
+    requires { ⌜ Ordering (joining (now starts) (now ends)) g (now taken) count ⌝ }
+    ensures { λ r. ⌜ r ≡ lowestOnCycle (joining (now (starts .entry)) (now (ends .entry))) g ⌝ }
 {
     let mut turned = [0u16; 512];
-    let back = order(row, ends, starts, g, &mut turned);
+    let back = order(ends, starts, g, &mut turned);
     let mut aside = [0u8; 512];
     set_aside(taken, count, &mut aside);
     set_aside(&turned, back, &mut aside);
-    search_cycle(row, starts, ends, head, next, &aside, g)
+    search_cycle(starts, ends, head, next, &aside, g)
 }
 
 // The lowest of g clusters that lies on a cycle, or g: the search runs only where the order does not take all.
 // The order is left in the front of `taken`, and the links of the edges that leave each cluster in `head` and `next`.
 pub fn lowest_on_cycle(
-    row: &[u16],
     starts: &[u16],
     ends: &[u16],
     g: usize,
@@ -366,17 +345,17 @@ pub fn lowest_on_cycle(
     head: &mut [u16; 513],
     next: &mut [u16; 1024],
 ) -> usize
-    requires { ⌜ Joins (now row) (now starts) (now ends) ⌝ }
-    requires { ⌜ Inside (arcs (now row) (now starts) (now ends)) g ⌝ }
+    requires { ⌜ Ended (now starts) (now ends) ⌝ }
+    requires { ⌜ Inside (joining (now starts) (now ends)) g ⌝ }
     requires { ⌜ (g ≤ 512) × (length (now taken) ≡ 512) × (length (now next) ≡ 1024) ⌝ }
-    ensures { λ r. ⌜ r ≡ lowestOnCycle (arcs (now (row .entry)) (now (starts .entry)) (now (ends .entry))) g ⌝ }
-    ensures { λ _. ⌜ now (taken .exit) ≡ over (orderOf (arcs (now (row .entry)) (now (starts .entry)) (now (ends .entry))) g) (now (taken .entry)) ⌝ }
-    ensures { λ _. ⌜ Linked (leave (arcs (now (row .entry)) (now (starts .entry)) (now (ends .entry)))) (length (now (starts .entry))) (now (head .exit)) (now (next .exit)) ⌝ }
+    ensures { λ r. ⌜ r ≡ lowestOnCycle (joining (now (starts .entry)) (now (ends .entry))) g ⌝ }
+    ensures { λ _. ⌜ now (taken .exit) ≡ over (orderOf (joining (now (starts .entry)) (now (ends .entry))) g) (now (taken .entry)) ⌝ }
+    ensures { λ _. ⌜ Linked (leave (joining (now (starts .entry)) (now (ends .entry)))) (length (now (starts .entry))) (now (head .exit)) (now (next .exit)) ⌝ }
 {
-    graph::fill_leaving(row, starts, ends, head, next);
-    let count = order_by(row, starts, ends, head, next, g, taken);
+    graph::link_leaving(starts, ends, head, next);
+    let count = order_by(starts, ends, head, next, g, taken);
     if count == g {
         return g;
     }
-    search_rest(row, starts, ends, head, next, g, taken, count)
+    search_rest(starts, ends, head, next, g, taken, count)
 }

@@ -16,7 +16,7 @@ use Rattle.graph.proofs.Edges.{row-inside, identity-row}
 use Rattle.topology.specs.Reach.{lowestOnCycle}
 use Rattle.topology.proofs.Reaches.{none-acyclic, lowest-none}
 use Rattle.validity.specs.Sound.{Sound}
-use Rattle.validity.specs.Check.{refuseIf, refuseAt, badVertices, badParts, badEdges, badCost, badEnds, repeats, cyclesFrom, repeatsFrom, endsFrom, costsFrom, checked, Valid}
+use Rattle.validity.specs.Check.{mostVertices, refuseIf, refuseAt, badVertices, badParts, badEdges, badCost, badEnds, repeats, cyclesFrom, repeatsFrom, endsFrom, costsFrom, checked, Valid}
 use Rattle.validity.specs.Cause.{numberOf, Answer, refusal, ifPassed}
 use Rattle.validity.specs.declared.Cause.{Cause}
 use Rattle.validity.specs.declared.Cause.the-variants.{Vertices, Parts, Edges, Room, Cost, Ends, Repeat, Cycle, Uncut, Entry, Empty, Over, PartCycle, Length, Line, Lines}
@@ -178,6 +178,19 @@ passed-valid most G k bound room l e =
     let (d, r4) = passed-if (not room) _ _ r3 in
     let (z, f) = neither (eqb (vertices G) 0) _ a in
     (rw (z, le-ltb 512 (vertices G) (omega (arith, ltb-false most (vertices G) f)), b, c) r4, not-no room d)
+
+pub passed-few : (most : ℕ) (G : Graph) (k bound : ℕ) (room : Bool) → checked most G k bound room ≡ Passed → vertices G ≤ most
+unfolding checked badVertices
+passed-few most G k bound room e =
+    let (a, _) = passed-if (badVertices most (vertices G)) _ _ e in
+    let (_, f) = neither (eqb (vertices G) 0) _ a in ltb-false most (vertices G) f
+
+-- of the most vertices only that they are enough counts
+pub valid-most : (most : ℕ) (G : Graph) (k bound : ℕ) → Valid G k bound → vertices G ≤ most → checked most G k bound true ≡ Passed
+unfolding checked badVertices
+valid-most most G k bound valid few =
+    let (a, r) = passed-if (badVertices mostVertices (vertices G)) _ _ valid in
+    let (z, _) = neither (eqb (vertices G) 0) _ a in rw (z, le-ltb most (vertices G) few) r
 
 -- a refusal has a number above 0
 pub numbered : (cause : Cause) → numberOf cause ≡ 0 → ⊥

@@ -114,10 +114,10 @@ pub bit-is : {ends : List ℕ} {j b x : ℕ} → Read ends j 65536 b → x ≡ 2
 bit-is to e = rw (to .is) at e
 
 -- as many words for each vertex as have a bit for each
-pub fits-roomy : {row starts ends : List ℕ} (stride : ℕ) → Fits row starts ends → length row ≤ stride * 64 → Roomy starts ends stride (stride * 64 * stride)
-fits-roomy {starts = starts} stride F n =
+pub fits-roomy : {n : ℕ} {starts ends : List ℕ} (stride : ℕ) → Fits n starts ends → n ≤ stride * 64 → Roomy starts ends stride (stride * 64 * stride)
+fits-roomy {starts = starts} stride F l =
     record {
       same = F .same;
-      start-in = λ j l. rw (← suc-mul (getD starts j 0) stride) (mul-le-mul-right stride (omega (arith, F .start-in j l)));
-      end-in = λ j l. omega (arith, F .end-in j l);
+      start-in = λ j h. rw (← suc-mul (getD starts j 0) stride) (mul-le-mul-right stride (omega (arith, F .start-in j h)));
+      end-in = λ j h. omega (arith, F .end-in j h);
     }

@@ -21,7 +21,11 @@ refuseIf fault cause next = pick fault (Refused cause 0) next
 unfoldable pub refuseAt : Cause → ℕ → ℕ → Verdict → Verdict
 refuseAt cause place n next = pick (ltb place n) (Refused cause place) next
 
--- 1: n is 0 or above the most (512)
+-- document 01: the most blocks of a kit
+abbrev pub mostVertices : ℕ
+mostVertices = 512
+
+-- 1: n is 0 or above the most
 unfoldable pub badVertices : ℕ → ℕ → Bool
 badVertices most n = eqb n 0 || ltb most n
 
@@ -69,4 +73,4 @@ checked most G k bound room =
 
 -- document 01: a kit is sound, and its lists accepted, if the call passes 1 to 8
 abbrev pub Valid : Graph → ℕ → ℕ → Type 0
-Valid G k bound = checked 512 G k bound true ≡ Passed
+Valid G k bound = checked mostVertices G k bound true ≡ Passed

@@ -2,12 +2,12 @@
 ghost use mathlib.Core.Path.{_≡_};
 ghost use Prim.Native.Nat.{ℕ, _<_, _≤_};
 ghost use lib.ListN.{length, getD};
-ghost use Rattle.folds.specs.Fold.{firstTo, over};
-ghost use Rattle.graph.specs.Graph.{graphOf, identity};
+ghost use Rattle.folds.specs.Fold.{firstTo};
+ghost use Rattle.graph.specs.Graph.{graphOf};
 ghost use Rattle.validity.specs.Cause.{numberOf};
 ghost use Rattle.validity.specs.Repeat.{Roomy, tried};
 ghost use Rattle.validity.specs.Fit.{Fits, OrderLeft};
-ghost use Rattle.validity.specs.Check.{badVertices, badParts, badEdges, badCost, badEnds, repeats, cyclesFrom, repeatsFrom, endsFrom, costsFrom, checked};
+ghost use Rattle.validity.specs.Check.{badVertices, badParts, badEdges, badCost, badEnds, repeats, repeatsFrom, costsFrom, checked};
 
 // In the order of document 01's numbers.
 pub enum Cause {
@@ -156,18 +156,6 @@ fn bad_end(n: usize, starts: &[u16], ends: &[u16], widths: &[u16]) -> usize
     j
 }
 
-// The vertices themselves as a row.
-fn fill_identity(row: &mut [u16; 512], n: usize)
-    requires { ⌜ (length (now row) ≡ 512) × (n ≤ 512) ⌝ }
-    ensures { λ _. ⌜ now (row .exit) ≡ over (identity n) (now (row .entry)) ⌝ }
-{
-    let mut v: usize = 0;
-    while v < n {
-        row[v] = v as u16;
-        v += 1;
-    }
-}
-
 // Tries the edges from the lowest up, to the first whose bit is set already: edge j has bit ends[j] % 64 of word
 // starts[j] * stride + ends[j] / 64.
 fn first_repeat(starts: &[u16], ends: &[u16], stride: usize, seen: &mut [u64]) -> Repeated
@@ -194,11 +182,10 @@ fn first_repeat(starts: &[u16], ends: &[u16], stride: usize, seen: &mut [u64]) -
 }
 
 // Tries the edges from the lowest up as repeats of earlier ones, to the first find. Fewer vertices, fewer words.
-pub fn find_repeat(row: &[u16], starts: &[u16], ends: &[u16]) -> Repeated
-    requires { ⌜ Fits (now row) (now starts) (now ends) ⌝ }
+pub fn find_repeat(n: usize, starts: &[u16], ends: &[u16]) -> Repeated
+    requires { ⌜ Fits n (now starts) (now ends) ⌝ }
     ensures { λ r. ⌜ (r .place ≡ firstTo (length (now (starts .entry))) (repeats (now (starts .entry)) (now (ends .entry)))) × (r .tried ≡ tried (r .place) (length (now (starts .entry)))) ⌝ }
 {
-    let n = row.len();
     if n <= 64 {
         let mut seen = [0u64; 64];
         return first_repeat(starts, ends, 1, &mut seen);
@@ -211,32 +198,7 @@ pub fn find_repeat(row: &[u16], starts: &[u16], ends: &[u16]) -> Repeated
     first_repeat(starts, ends, 8, &mut seen)
 }
 
-// Checks 7 and 8, on the vertices' own row.
-fn check_row(
-    row: &[u16],
-    starts: &[u16],
-    ends: &[u16],
-    order: &mut [u16; 512],
-    head: &mut [u16; 513],
-    next: &mut [u16; 1024],
-) -> Verdict
-    requires { ⌜ Fits (now row) (now starts) (now ends) ⌝ }
-    requires { ⌜ (length (now order) ≡ 512) × (length (now next) ≡ 1024) ⌝ }
-    ensures { λ r. ⌜ r ≡ repeatsFrom (length (now (row .entry))) (now (starts .entry)) (now (ends .entry)) ⌝ }
-    ensures { λ r. ⌜ OrderLeft r (length (now (row .entry))) (now (starts .entry)) (now (ends .entry)) (now (order .entry)) (now (order .exit)) (now (head .exit)) (now (next .exit)) ⌝ }
-{
-    let found = find_repeat(row, starts, ends);
-    let j = found.place;
-    if j < starts.len() {
-        return Verdict::Refused(Cause::Repeat, j);
-    }
-    let v = topology::lowest_on_cycle(row, starts, ends, row.len(), order, head, next);
-    if v < row.len() {
-        return Verdict::Refused(Cause::Cycle, v);
-    }
-    Verdict::Passed
-}
-
+// Checks 7 and 8.
 fn check_repeats(
     n: usize,
     starts: &[u16],
@@ -245,14 +207,21 @@ fn check_repeats(
     head: &mut [u16; 513],
     next: &mut [u16; 1024],
 ) -> Verdict
-    requires { ⌜ Fits (identity n) (now starts) (now ends) ⌝ }
+    requires { ⌜ Fits n (now starts) (now ends) ⌝ }
     requires { ⌜ (length (now order) ≡ 512) × (length (now next) ≡ 1024) ⌝ }
     ensures { λ r. ⌜ r ≡ repeatsFrom n (now (starts .entry)) (now (ends .entry)) ⌝ }
     ensures { λ r. ⌜ OrderLeft r n (now (starts .entry)) (now (ends .entry)) (now (order .entry)) (now (order .exit)) (now (head .exit)) (now (next .exit)) ⌝ }
 {
-    let mut row = [0u16; 512];
-    fill_identity(&mut row, n);
-    check_row(&row[0..n], starts, ends, order, head, next)
+    let found = find_repeat(n, starts, ends);
+    let j = found.place;
+    if j < starts.len() {
+        return Verdict::Refused(Cause::Repeat, j);
+    }
+    let v = topology::lowest_on_cycle(starts, ends, n, order, head, next);
+    if v < n {
+        return Verdict::Refused(Cause::Cycle, v);
+    }
+    Verdict::Passed
 }
 
 // Checks 5 to 8.

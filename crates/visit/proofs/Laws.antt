@@ -12,9 +12,9 @@ use Rattle.folds.proofs.Cases.{when-le}
 use Rattle.folds.proofs.Lists.{set-add}
 use Rattle.folds.proofs.Sums.{sumTo-step, sumTo-less, sumTo-mono}
 use Rattle.graph.specs.Graph.{via}
-use Rattle.graph.specs.Links.{Linked}
+use Rattle.graph.specs.Links.{Linked, Ended}
 use Rattle.graph.proofs.Links.{Only, Acts, On, sum-on, sum-next, turns-on, turns-next}
-use Rattle.visit.specs.Visit.{Ended, Listed, lowerBy, raiseBy, widthTo, pullTo, Room, Added, Pulled}
+use Rattle.visit.specs.Visit.{Listed, lowerBy, raiseBy, widthTo, pullTo, Room, Added, Pulled}
 
 -- the lists, the other way round
 pub ended-back : {froms tos : List ℕ} → Ended froms tos → Ended tos froms

@@ -7,23 +7,12 @@ use lib.Dec.{eqb}
 use lib.ListN.{length, getD}
 use Rattle.folds.specs.Fold.{pick, when, sumTo, turns}
 use Rattle.graph.specs.Graph.{via}
-use Rattle.graph.specs.Links.{Linked}
+use Rattle.graph.specs.Links.{Linked, Ended}
 
 -- a part below 16 for each cluster
 pub record Placed (table : List ℕ) : Type 0 where
   pub long : length table ≡ 512
   pub low : (c : ℕ) → c < 512 → getD table c 0 < 16
-
--- the ends of at most 1024 edges, clusters below 512
-pub record Named (ends : List ℕ) : Type 0 where
-  pub few : length ends ≤ 1024
-  pub low : (i : ℕ) → i < length ends → getD ends i 0 < 512
-
--- the two ends of each edge: edge i goes from cluster froms[i] to cluster tos[i]
-pub record Ended (froms tos : List ℕ) : Type 0 where
-  pub from : Named froms
-  pub to : Named tos
-  pub same : length tos ≡ length froms
 
 -- a rung's edges in lists
 pub record Listed (froms tos widths : List ℕ) : Type 0 where

@@ -4,8 +4,8 @@ ghost use mathlib.Core.Path.{_≡_};
 ghost use Prim.Native.Nat.{_<_, _≤_, min, max};
 ghost use lib.ListN.{length, getD};
 ghost use Rattle.folds.specs.Fold.{when, turns, Read};
-ghost use Rattle.graph.specs.Links.{Linked};
-ghost use Rattle.visit.specs.Visit.{Placed, Named, Ended, Listed, Indexed, lowerBy, raiseBy, Room, Added, Pulled};
+ghost use Rattle.graph.specs.Links.{Linked, Ended};
+ghost use Rattle.visit.specs.Visit.{Placed, Listed, Indexed, lowerBy, raiseBy, Room, Added, Pulled};
 ghost use Rattle.visit.specs.Known.{openTo, Known, Swept, Opened, Fresh, Staled, Roused};
 
 fn least(a: u16, b: u16) -> u16
@@ -29,43 +29,6 @@ pub fn part_at(table: &[u16; 512], c: usize) -> usize
     folds::wide(table[c])
 }
 
-// The cluster at which edge i has its end.
-fn end_at(ends: &[u16], i: usize) -> usize
-    requires { ⌜ Named (now ends) ⌝ }
-    requires { ⌜ i < length (now ends) ⌝ }
-    ensures { λ r. ⌜ Read (now (ends .entry)) i 512 r ⌝ }
-{
-    folds::at16(ends, i)
-}
-
-// Fills the lists of the edges by the cluster that they leave and by the one that they enter, from the last edge down.
-pub fn fill_both(
-    from: &[u16],
-    to: &[u16],
-    head: &mut [u16; 513],
-    next: &mut [u16; 1024],
-    head_in: &mut [u16; 513],
-    next_in: &mut [u16; 1024],
-)
-    requires { ⌜ Ended (now from) (now to) ⌝ }
-    requires { ⌜ (length (now next) ≡ 1024) × (length (now «next_in») ≡ 1024) ⌝ }
-    ensures { λ _. ⌜ Indexed (now (from .entry)) (now (to .entry)) (now (head .exit)) (now (next .exit)) (now («head_in» .exit)) (now («next_in» .exit)) ⌝ }
-{
-    let m = from.len();
-    *head = [m as u16; 513];
-    *head_in = [m as u16; 513];
-    let mut j: usize = m;
-    while j > 0 {
-        j -= 1;
-        let a = end_at(from, j);
-        next[j] = head[a];
-        head[a] = j as u16;
-        let b = end_at(to, j);
-        next_in[j] = head_in[b];
-        head_in[b] = j as u16;
-    }
-}
-
 // For every cluster the lowest part of a successor, or k, and one more than the highest of a predecessor, or 0.
 fn sweep(
     from: &[u16],
@@ -85,8 +48,8 @@ fn sweep(
     let m = from.len();
     let mut j: usize = 0;
     while j < m {
-        let a = end_at(from, j);
-        let b = end_at(to, j);
+        let a = graph::end_at(from, j);
+        let b = graph::end_at(to, j);
         low[a] = least(low[a], table[b]);
         high[b] = most(high[b], table[a] + 1);
         j += 1;
@@ -169,7 +132,7 @@ fn lowest(
     while j < m {
         let i = j;
         j = folds::wide(next[i]);
-        let c = end_at(far, i);
+        let c = graph::end_at(far, i);
         low = least(low, table[c]);
     }
     low
@@ -196,7 +159,7 @@ fn highest(
     while j < m {
         let i = j;
         j = folds::wide(next[i]);
-        let c = end_at(far, i);
+        let c = graph::end_at(far, i);
         high = most(high, table[c] + 1);
     }
     high
@@ -256,7 +219,7 @@ fn add_widths(
     while j < m {
         let i = j;
         j = folds::wide(next[i]);
-        let c = end_at(far, i);
+        let c = graph::end_at(far, i);
         let p = part_at(table, c);
         toward[p] = toward[p] + widths[i];
     }
@@ -305,7 +268,7 @@ fn mark_far(
     while j < m {
         let i = j;
         j = folds::wide(next[i]);
-        let c = end_at(far, i);
+        let c = graph::end_at(far, i);
         marks[c] = 2;
     }
 }

@@ -17,4 +17,4 @@ tell-split-spec =
     (λ c. search needs)
     (λ c. search needs)
     (λ c. let e = sym (c .before .before .before .told .given .1) in (c .number .ensures ∙ ap (λ p. answerOf p .number) e, ap (λ p. fourCells (answerOf p)) e))
-    (λ c. let e = sym (c .before .before .told2 .given .1) in (ap (λ p. answerOf p .number) e, ap (λ p. fourCells (answerOf p)) e)))
+    (λ c. let e = sym (c .before .before .before .told2 .given .1) in (ap (λ p. answerOf p .number) e, ap (λ p. fourCells (answerOf p)) e)))

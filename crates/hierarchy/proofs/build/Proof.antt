@@ -1,9 +1,9 @@
 -- row 0, its order and its lists are the graph's own; the links are handed in
-use mathlib.Core.Path.{refl}
+use mathlib.Core.Path.{_∙_}
 use native.Mathlib.Omega.{arith}
 use Rattle.graph.specs.Graph.{Graph, graphOf}
 use Rattle.hierarchy.proofs.Starting.{widths-narrow, first-kept, first-carried, first-links, first-order, ordered-room}
-use Rattle.hierarchy.proofs.Rising.{first-room, first-same, first-front, built-first}
+use Rattle.hierarchy.proofs.Rounds.{first-room, first-same, first-front, built-first}
 use borrow.Author.Needs.{needs}
 use Rattle.hierarchy.proofs.build.Statement.{statement}
 use Rattle.hierarchy.proofs.build.Tie as tie
@@ -17,7 +17,7 @@ rowed c = c .before .before .before .before .before
 abbrev copied : tie.After-first → tie.After-copy
 copied c = c .before .before .before .before .before .before .before
 
-abbrev listed : tie.After-rise → tie.After-first
+abbrev listed : tie.After-join-rows → tie.After-first
 listed c = c .before .before .before .before .before .before .before .before .before .before .before .before .before .before .before
 
 abbrev graph : tie.Start → Graph
@@ -41,13 +41,13 @@ build-spec =
     let p = s .pre in
     let k = s .args .k in
     let G = graph s in
-    let front = first-front G _ (p .1 .0 .rows) (w .first-row .ensures) in
+    let front = first-front G _ (p .1 .0 .row-room) (w .first-row .ensures) in
     let M = ordered-room G k (p .0) _ _ (p .1 .0 .order-room) (p .1 .1 .0) (d .copy .ensures) (p .1 .0) in
     let F = f .first .ensures in
-    (p .0, (first-kept G k (p .0) M F _ (first-room G _ (p .1 .0 .rows) (w .first-row .ensures)), (front, (first-carried G k (p .0) M F _ front (widths-narrow G k (p .0) (λ j. omega (arith, w .before .before .before .before .before .before .before .shared-slice-known4 .given j))) (first-order G k (p .0) _ _ (p .1 .0 .order-room) (p .1 .1 .0) (d .copy .ensures)), first-links G k (p .0) M F refl (p .1 .1 .1 .1))))))
-    (λ c. let w = rowed (copied (listed (c .before .before .before .before .before .before .before .before .before .before))) in let s = start w in let h = first-same (graph s) _ (s .pre .1 .0 .rows) (w .first-row .ensures) in search needs)
-    (λ c. search needs)
-    (λ c. search needs)
-    (λ c. search needs)
-    (λ c. search needs)
-    (λ c. let r = c .before .before .before .before .before .before .before .before .before .before in let w = rowed (copied (listed r)) in (built-first (start w .pre .1 .0 .rows) (w .first-row .ensures) (r .rise .ensures .0), r .rise .ensures .1)))
+    (p .0, (first-kept G k (p .0) M F _ (first-room G _ (p .1 .0 .row-room) (w .first-row .ensures)), (front, (first-carried G k (p .0) M F _ front (widths-narrow G k (p .0) (λ j. omega (arith, w .before .before .before .before .before .before .before .shared-slice-known4 .given j))) (first-order G k (p .0) _ _ (p .1 .0 .order-room) (p .1 .1 .0) (d .copy .ensures)), first-links G k (p .0) M F (p .1 .1 .1 .1))))))
+    (λ c. let w = rowed (copied (listed (c .before .before .before .before .before .before .before .before .before .before))) in let s = start w in let h = first-same (graph s) _ (s .pre .1 .0 .row-room) (w .first-row .ensures) in (c .before .before .before .before .before .before .before .before .before .rows2 .given) ∙ h)
+    (λ c. c .before .before .before .before .before .before .before .froms2 .given ∙ c .before .before .before .before .before .before .before .before .before .before .before .before .before .before .before .before .before .before .before .before .before .before .before .before .froms .given)
+    (λ c. c .before .before .before .before .before .tos2 .given ∙ c .before .before .before .before .before .before .before .before .before .before .before .before .before .before .before .before .before .before .before .before .before .before .tos .given)
+    (λ c. c .before .before .before .wides2 .given ∙ c .before .before .before .before .before .before .before .before .before .before .before .before .before .before .before .before .before .before .before .before .wides .given)
+    (λ c. c .before .orders2 .given ∙ c .before .before .before .before .before .before .before .before .before .before .before .before .before .before .before .before .before .before .before .before .before .before .before .before .before .before .before .before .before .before .before .orders .given)
+    (λ c. let r = c .before .before .before .before .before .before .before .before .before .before in let w = rowed (copied (listed r)) in (built-first (start w .pre .1 .0 .row-room) (w .first-row .ensures) (r .join-rows .ensures .0), r .join-rows .ensures .1)))

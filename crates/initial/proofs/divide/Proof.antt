@@ -18,12 +18,12 @@ divide-spec =
     (λ c κs. let p = c .before .before .before .before .before .before .before .before .before .before .before .before .before .pre in (layer-once _ (p .0) (p .1 .0) (p .1 .1 .0) (c .before .before .cluster-count .ensures), (omega (arith, layer-few (p .0) (p .1 .0)), refl)))
     (λ c κs. let p = c .before .before .before .before .before .before .before .before .before .before .before .before .before .before .before .before .pre in (layer-spots (p .0) (p .1 .0), (c .before .before .invert .ensures .tall, refl)))
     (λ c. let p = c .before .before .before .before .before .before .before .before .before .before .before .before .before .before .before .before .before .pre in omega (arith, c .before .before .before .invert .ensures .tall, layer-few (p .0) (p .1 .0), c .before .before .before .before .before .before .cluster-count .ensures))
-    (λ c. let p = c .before .before .before .before .before .before .before .before .before .before .before .before .before .before .before .before .before .before .pre in let A = arranged (p .0) (p .1 .0) (p .1 .1 .0) (p .1 .1 .1 .0) (c .before .before .before .before .before .before .before .cluster-count .ensures) (c .before .before .before .before .invert .ensures) (zeros 512) refl (c .before .through .ensures) in sym (A .spots))
-    (λ c. let p = c .before .before .before .before .before .before .before .before .before .before .before .before .before .before .before .before .before .before .pre in let A = arranged (p .0) (p .1 .0) (p .1 .1 .0) (p .1 .1 .1 .0) (c .before .before .before .before .before .before .before .cluster-count .ensures) (c .before .before .before .before .invert .ensures) (zeros 512) refl (c .before .through .ensures) in omega (arith, A .tall, p .0 .few))
-    (λ c. let p = c .before .before .before .before .before .before .before .before .before .before .before .before .before .before .before .before .before .before .before .pre in let A = arranged (p .0) (p .1 .0) (p .1 .1 .0) (p .1 .1 .1 .0) (c .before .before .before .before .before .before .before .before .cluster-count .ensures) (c .before .before .before .before .before .invert .ensures) (zeros 512) refl (c .before .before .through .ensures) in sym (A .front))
+    (λ c. let p = c .before .before .before .before .before .before .before .before .before .before .before .before .before .before .before .before .before .before .pre in let A = arranged (p .0) (p .1 .0) (p .1 .1 .0) (p .1 .1 .1 .0) (p .1 .1 .1 .1 .0) (c .before .before .before .before .before .before .before .cluster-count .ensures) (c .before .before .before .before .invert .ensures) (zeros 512) refl (c .before .through .ensures) in sym (A .spots))
+    (λ c. let p = c .before .before .before .before .before .before .before .before .before .before .before .before .before .before .before .before .before .before .pre in let A = arranged (p .0) (p .1 .0) (p .1 .1 .0) (p .1 .1 .1 .0) (p .1 .1 .1 .1 .0) (c .before .before .before .before .before .before .before .cluster-count .ensures) (c .before .before .before .before .invert .ensures) (zeros 512) refl (c .before .through .ensures) in omega (arith, A .tall, p .0 .few))
+    (λ c. let p = c .before .before .before .before .before .before .before .before .before .before .before .before .before .before .before .before .before .before .before .pre in let A = arranged (p .0) (p .1 .0) (p .1 .1 .0) (p .1 .1 .1 .0) (p .1 .1 .1 .1 .0) (c .before .before .before .before .before .before .before .before .cluster-count .ensures) (c .before .before .before .before .before .invert .ensures) (zeros 512) refl (c .before .before .through .ensures) in sym (A .front))
     (λ c. search needs)
-    (λ c κs. let p = c .before .before .before .before .before .before .before .before .before .before .before .before .before .before .before .before .before .before .before .before .pre in let A = arranged (p .0) (p .1 .0) (p .1 .1 .0) (p .1 .1 .1 .0) (c .before .before .before .before .before .before .before .before .before .cluster-count .ensures) (c .before .before .before .before .before .before .invert .ensures) (zeros 512) refl (c .before .before .before .through .ensures) in
-    (A .keyed, (A .listed, (omega (arith, layer-some (p .0) (p .1 .0)), omega (arith, layer-few (p .0) (p .1 .0)), omega (arith, p .1 .1 .1 .1 .1), omega (arith, p .1 .1 .1 .1 .2, A .front)))))
+    (λ c κs. let p = c .before .before .before .before .before .before .before .before .before .before .before .before .before .before .before .before .before .before .before .before .pre in let A = arranged (p .0) (p .1 .0) (p .1 .1 .0) (p .1 .1 .1 .0) (p .1 .1 .1 .1 .0) (c .before .before .before .before .before .before .before .before .before .cluster-count .ensures) (c .before .before .before .before .before .before .invert .ensures) (zeros 512) refl (c .before .before .before .through .ensures) in
+    (A .keyed, (A .listed, (A .linked, (omega (arith, layer-some (p .0) (p .1 .0)), omega (arith, layer-few (p .0) (p .1 .0)), omega (arith, p .1 .1 .1 .1 .1 .1), omega (arith, p .1 .1 .1 .1 .1 .2, A .front))))))
     (λ c. search needs)
-    (λ c. let p = c .before .before .before .before .before .before .before .before .before .before .before .before .before .before .before .before .before .before .before .before .before .before .before .pre in let a = c .before .before .before .before .before .before .before .before .before .before .before .before .before .before .before .before .before .before .before .before .before .before .before .args in let A = arranged (p .0) (p .1 .0) (p .1 .1 .0) (p .1 .1 .1 .0) (c .before .before .before .before .before .before .before .before .before .before .before .before .cluster-count .ensures) (c .before .before .before .before .before .before .before .before .before .invert .ensures) (zeros 512) refl (c .before .before .before .before .before .before .through .ensures) in
-    rw (← A .finds (a .k) (a .bound) (p .1 .1 .1 .1 .0)) (c .before .before .solve .ensures)))
+    (λ c. let p = c .before .before .before .before .before .before .before .before .before .before .before .before .before .before .before .before .before .before .before .before .before .before .before .pre in let a = c .before .before .before .before .before .before .before .before .before .before .before .before .before .before .before .before .before .before .before .before .before .before .before .args in let A = arranged (p .0) (p .1 .0) (p .1 .1 .0) (p .1 .1 .1 .0) (p .1 .1 .1 .1 .0) (c .before .before .before .before .before .before .before .before .before .before .before .before .cluster-count .ensures) (c .before .before .before .before .before .before .before .before .before .invert .ensures) (zeros 512) refl (c .before .before .before .before .before .before .through .ensures) in
+    rw (← A .finds (a .k) (a .bound) (p .1 .1 .1 .1 .1 .0)) (c .before .before .solve .ensures)))

@@ -12,18 +12,18 @@ pub divide-at-spec : {M : Type 1} → statement M
 divide-at-spec =
     tie.close
     (tie.spec
-    (λ c. let p = c .before .before .before .before .before .before .before .before .before .before .pre in omega (arith, row-held _ _ (p .1 .1 .1 .1 .long)))
+    (λ c. let p = c .before .before .before .before .before .before .before .before .before .before .pre in omega (arith, row-held _ _ (p .1 .1 .1 .1 .1 .long)))
     (λ c. let p = c .before .before .before .before .before .before .before .before .before .before .pre in omega (arith, stored-held (p .1 .1 .1 .0)))
     (λ c. search needs)
-    (λ c. let p = c .before .before .before .before .before .before .before .before .before .before .pre in omega (arith, p .1 .1 .1 .1 .few, p .1 .1 .1 .1 .nine))
+    (λ c. let p = c .before .before .before .before .before .before .before .before .before .before .pre in omega (arith, p .1 .1 .1 .1 .1 .few, p .1 .1 .1 .1 .1 .nine))
     (λ c κs. search needs)
     (λ c. let p = c .before .before .before .before .before .before .before .before .before .before .before .before .pre in omega (arith, stored-held (p .1 .1 .1 .0), c .wide .ensures))
-    (λ c. let p = c .before .before .before .before .before .before .before .before .before .before .before .before .pre in omega (arith, row-held _ _ (p .1 .1 .1 .1 .long)))
+    (λ c. let p = c .before .before .before .before .before .before .before .before .before .before .before .before .pre in omega (arith, row-held _ _ (p .1 .1 .1 .1 .1 .long)))
     (λ c. search needs)
     (λ c. search needs)
-    (λ c. let p = c .before .before .before .before .before .before .before .before .before .before .before .before .pre in omega (arith, row-held _ _ (p .1 .1 .1 .1 .long)))
-    (λ c. let p = c .before .before .before .before .before .before .before .before .before .before .before .before .pre in omega (arith, row-held _ _ (p .1 .1 .1 .1 .long)))
-    (λ c. let p = c .before .before .before .before .before .before .before .before .before .before .before .before .before .pre in omega (arith, row-held _ _ (p .1 .1 .1 .1 .long)))
+    (λ c. let p = c .before .before .before .before .before .before .before .before .before .before .before .before .pre in omega (arith, row-held _ _ (p .1 .1 .1 .1 .1 .long)))
+    (λ c. let p = c .before .before .before .before .before .before .before .before .before .before .before .before .pre in omega (arith, row-held _ _ (p .1 .1 .1 .1 .1 .long)))
+    (λ c. let p = c .before .before .before .before .before .before .before .before .before .before .before .before .before .pre in omega (arith, row-held _ _ (p .1 .1 .1 .1 .1 .long)))
     (λ c. search needs)
     (λ c. search needs)
     (λ c. let p = c .before .before .before .before .before .before .before .before .before .before .before .before .before .pre in omega (arith, row-held _ _ (p .1 .1 .0 .long)))
@@ -49,7 +49,10 @@ divide-at-spec =
           rw (R, row-part (a .orders .now) (a .r * n) n) (p .1 .1 .0 .is (a .r) (omega arith)),
           (
             rw (c .before .before .before .before .before .before .wide .ensures, R, row-part (a .from .now) b z, row-part (a .to .now) b z, row-part (a .width .now) b z) (p .1 .1 .1 .0 .is (a .r) (omega arith)),
-            (p .1 .1 .1 .1 .parts .0, p .1 .1 .1 .1 .parts .1, p .1 .1 .1 .1 .room),
+            (
+              rw (c .before .before .before .before .before .before .wide .ensures, row-part (a .from .now) b z, row-part (a .to .now) b z) (p .1 .1 .1 .1 .0 .linked),
+              (p .1 .1 .1 .1 .1 .parts .0, p .1 .1 .1 .1 .1 .parts .1, p .1 .1 .1 .1 .1 .room),
+            ),
           ),
         ),
       ),

@@ -6,7 +6,7 @@ use lib.ListN.{length, getD}
 use Rattle.folds.specs.Fold.{Filled}
 use Rattle.folds.proofs.Slices.{filled-none, filled-turn, filled-end}
 use Rattle.graph.specs.Graph.{through}
-use Rattle.initial.proofs.Gathers.{spot-low}
+use Rattle.initial.proofs.Arranges.{spot-low}
 use borrow.Author.Needs.{needs}
 use Rattle.initial.proofs.through.Statement.{statement}
 use Rattle.initial.proofs.through.Tie as tie

@@ -1,3 +1,4 @@
+-- an entry is raised where it is lower and not that of u itself
 use Rattle.folds.proofs.Cases.{cases}
 use Rattle.levels.specs.Sweep.{raisedOf}
 use borrow.Author.Needs.{needs}

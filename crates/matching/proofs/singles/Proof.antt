@@ -1,3 +1,4 @@
+-- the entries before c are their own numbers
 use Rattle.folds.specs.Fold.{zeros}
 use Rattle.folds.proofs.Slices.{filled-none, filled-turn, filled-all}
 use Rattle.folds.specs.Fold.{Filled}

@@ -1,5 +1,8 @@
+-- what wins is taken, else the best stays
 use mathlib.Core.Path.{refl}
 use mathlib.Core.Logic.{inl, inr}
+use Rattle.folds.proofs.Cases.{either}
+use borrow.Author.Needs.{needs}
 use Rattle.offers.proofs.better.Statement.{statement}
 use Rattle.offers.proofs.better.Tie as tie
 
@@ -7,7 +10,6 @@ pub better-spec : {M : Type 1} → statement M
 better-spec =
     tie.close
     (tie.spec
-    (λ c. record { is = inl (c .if1 .taken, refl, refl) })
-    (λ c. record { is = inr (inl (c .before .before .if2 .taken, c .if3 .taken, refl, refl)) })
-    (λ c. record { is = inr (inr (c .before .before .before .before .if1 .left, λ _. c .if3 .left, refl, refl)) })
-    (λ c. record { is = inr (inr (c .before .before .if1 .left, λ e. absurd (c .if2 .left e), refl, refl)) }))
+    (λ c κs. search needs)
+    (λ c. record { is = either (c .before .wins .ensures .yes (c .if1 .taken)) (λ g. inl (g, refl, refl)) (λ (e, g). inr (inl (e, g, refl, refl))) })
+    (λ c. let (g, h) = c .before .wins .ensures .no (c .if1 .left) in record { is = inr (inr (g, h, refl, refl)) }))

@@ -1,3 +1,4 @@
+-- rule 1: the next level, or all that leaves u
 use Rattle.offers.proofs.Loops.{near-yes, near-no}
 use borrow.Author.Needs.{needs}
 use Rattle.offers.proofs.is_near.Statement.{statement}

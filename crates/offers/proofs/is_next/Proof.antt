@@ -1,3 +1,4 @@
+-- a difference of 1 between two levels
 use Rattle.offers.proofs.Loops.{next-no, next-by}
 use borrow.Author.Needs.{needs}
 use Rattle.offers.proofs.is_next.Statement.{statement}

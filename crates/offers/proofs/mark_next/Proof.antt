@@ -1,3 +1,4 @@
+-- an entry is marked where it is on the level after u and not u itself
 use Rattle.offers.specs.State.{blockedOf}
 use mathlib.Core.Path.{sym, _∙_}
 use Rattle.folds.proofs.Cases.{cases}

@@ -1,3 +1,4 @@
+-- the tests of `offerIn`, one after another
 use Rattle.offers.proofs.Loops.{offer-mated, offer-blocked, offer-dear, offer-near, offer-far}
 use native.Mathlib.Omega.{arith}
 use borrow.Author.Needs.{needs}

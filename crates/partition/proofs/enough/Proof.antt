@@ -9,5 +9,5 @@ pub enough-spec : {M : Type 1} → statement M
 enough-spec =
     tie.close
     (tie.spec
-    (λ c. rw (le-leb _ _ (c .if1 .taken)) (nine-rows (c .before .args .n) (c .before .args .ladder)))
+    (λ c. rw (le-leb _ _ (c .if1 .taken)) (nine-rows (c .before .args .n) (c .before .args .rows)))
     (λ c. search cases))

@@ -1,5 +1,5 @@
 -- h clusters have been visited.
-use Rattle.pass.proofs.Work.{done-none, done-turn}
+use Rattle.pass.proofs.Work.{done-none, done-turn, done-pass}
 use Rattle.pass.specs.Work.{workOf, worked, Done}
 use Rattle.visit.specs.Known.{Known}
 use Rattle.folds.specs.Fold.{turns}
@@ -24,10 +24,10 @@ pass-spec =
     (λ c. let p = c .before .before .before .pre in (omega arith, done-none _ _ (p .1 .1 .0), p .1 .1 .1 .0))
     (λ c κs. let p = c .before .before .before .before .before .before .before .before .before .pre in
     let (l, d, k) = c .before .before .before .before .before .loop .inv in
-    let q = p .1 .1 .1 .1 in
-    (p .0, (p .1 .0, (d .placed, (rw (d .counts) k, (omega arith, q .1, omega (arith, d .counts, q .2), omega (arith, d .few, q .3)))))))
+    let q = p .1 .1 .1 .1 .0 in
+    (p .0, (p .1 .0, (d .placed, (rw (d .counts) k, ((omega arith, q .1, omega (arith, d .counts, q .2), omega (arith, d .few, q .3)), rw (d .is-so) (p .1 .1 .1 .1 .1 _ (c .before .before .before .before .loop-test .taken))))))))
     (λ c. search needs)
     (λ c. search needs)
     (λ c. let (l, d, k) = c .before .before .before .before .before .before .loop .inv in
     let r = c .refine-cluster .ensures in (omega arith, done-turn _ d (r .0), rw (d .counts) at (r .1)))
-    (λ c. let w = c .before .loop .inv in let q : c .before .loop .h ≡ c .before .before .before .before .before .args .g = omega arith in (rw q at (w .1), w .2)))
+    (λ c. let w = c .before .loop .inv in let q : c .before .loop .h ≡ c .before .before .before .before .before .args .g = omega arith in (done-pass (rw q at (w .1)), w .2)))

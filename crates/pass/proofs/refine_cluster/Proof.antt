@@ -1,6 +1,6 @@
 -- A closed cluster stays. The goal of any other is that of `worked`: it stays where this is its own part, else it moves, and the other ends of
 -- its edges are marked.
-use Rattle.pass.proofs.Work.{done-closed, goal-allowed, goal-marked, worked-stay, worked-move, placed-set}
+use Rattle.pass.proofs.Work.{done-closed, goal-allowed, goal-marked, goal-paid, worked-stay, worked-move, placed-set}
 use Rattle.visit.proofs.Known.{known-moved}
 use mathlib.Core.Path.{refl, _∙_}
 use native.Mathlib.Omega.{arith}
@@ -13,31 +13,32 @@ refine-cluster-spec =
     tie.close
     (tie.spec
     (λ c. search needs)
-    (λ c. let p = c .before .before .before .before .before .pre .1 .1 in (done-closed _ _ _ _ _ _ _ (p .1 .1 .0) (p .0) (p .1 .0) (c .if1 .taken), p .1 .0))
-    (λ c κs. let p = c .before .before .before .before .before .before .before .pre .1 .1 in (p .0, p .1 .1 .0))
-    (λ c κs. let p = c .before .before .before .before .before .before .before .before .before .before .before .before .pre in (p .0, (p .1 .0, (p .1 .1 .0, (p .1 .1 .1 .0, (p .1 .1 .1 .1 .0, p .1 .1 .1 .1 .1, p .1 .1 .1 .1 .2))))))
+    (λ c. let p = c .before .before .before .before .before .pre .1 .1 in (done-closed _ _ _ _ _ _ _ (p .1 .1 .0 .0) (p .0) (p .1 .0) (c .if1 .taken), p .1 .0))
+    (λ c κs. let p = c .before .before .before .before .before .before .before .pre .1 .1 in (p .0, p .1 .1 .0 .0))
+    (λ c κs. let p = c .before .before .before .before .before .before .before .before .before .before .before .before .pre in (p .0, (p .1 .0, (p .1 .1 .0, (p .1 .1 .1 .0, (p .1 .1 .1 .1 .0 .0, p .1 .1 .1 .1 .0 .1, p .1 .1 .1 .1 .0 .2))))))
     (λ c. let p = c .before .before .before .before .before .before .before .before .before .before .before .before .before .before .pre in
     let o = c .before .before .before .before .before .before .part-at .ensures in
     let G = c .before .goal .ensures in
     (record { is-so = worked-stay _ _ _ _ _ _ _ _ (G .is) (c .if2 .taken ∙ o .is); placed = p .1 .1 .0; counts = refl; few = omega arith }, G .known))
-    (λ c. search needs)
-    (λ c. omega (arith, c .before .before .before .before .before .before .before .before .before .before .before .before .before .before .pre .1 .1 .1 .1 .0))
-    (λ c. let p = c .before .before .before .before .before .before .before .before .before .before .before .before .before .before .pre in omega (arith, p .1 .1 .1 .1 .0, p .1 .1 .0 .long))
-    (λ c κs. let p = c .before .before .before .before .before .before .before .before .before .before .before .before .before .before .before .pre in (p .0 .ends, (p .1 .0, (p .1 .1 .1 .1 .0, c .before .before .goal .ensures .known .marks-long))))
-    (λ c. omega (arith, c .before .before .before .before .before .before .before .before .before .before .before .before .before .before .before .before .pre .1 .1 .1 .1 .0))
-    (λ c. let p = c .before .before .before .before .before .before .before .before .before .before .before .before .before .before .before .before .pre .1 .1 .1 .1 in omega (arith, p .0, p .1))
+    (λ c. omega (arith, c .before .goal .ensures .within))
+    (λ c. omega (arith, c .before .before .before .before .before .before .before .before .before .before .before .before .before .before .pre .1 .1 .1 .1 .0 .0))
+    (λ c. let p = c .before .before .before .before .before .before .before .before .before .before .before .before .before .before .pre in omega (arith, p .1 .1 .1 .1 .0 .0, p .1 .1 .0 .long))
+    (λ c κs. let p = c .before .before .before .before .before .before .before .before .before .before .before .before .before .before .before .pre in (p .0 .ends, (p .1 .0, (p .1 .1 .1 .1 .0 .0, c .before .before .goal .ensures .known .marks-long))))
+    (λ c. omega (arith, c .before .before .before .before .before .before .before .before .before .before .before .before .before .before .before .before .pre .1 .1 .1 .1 .0 .0))
+    (λ c. let p = c .before .before .before .before .before .before .before .before .before .before .before .before .before .before .before .before .pre .1 .1 .1 .1 .0 in omega (arith, p .0, p .1))
     (λ c κs. let o = c .before .before .before .before .before .before .before .before .before .part-at .ensures in
-    rw (o .is) (goal-allowed _ _ _ _ _ _ (c .before .before .before .before .goal .ensures) (rw (o .is) at (c .before .before .before .if2 .left)) (rw (o .is) at (o .low)) (omega arith)))
-    (λ c. omega (arith, c .before .before .before .before .before .before .before .before .before .before .before .before .before .before .before .before .before .before .before .pre .1 .1 .1 .1 .3))
-    (λ c. let p = c .before .before .before .before .before .before .before .before .before .before .before .before .before .before .before .before .before .before .before .pre in
-    let o = c .before .before .before .before .before .before .before .before .before .before .before .part-at .ensures in
-    let G = c .before .before .before .before .before .before .goal .ensures in
-    let n = c .before .before .before .before .before .if2 .left in (
+    rw (o .is) (goal-allowed _ _ _ _ _ _ (c .before .before .before .before .goal .ensures) (rw (o .is) at (c .before .before .before .if2 .left)) (rw (o .is) at (o .low)) (omega (arith, c .before .before .before .before .before .before .before .before .before .before .before .before .before .before .before .before .before .fits .bound))))
+    (λ c. goal-paid _ _ _ _ _ _ _ (c .before .before .before .before .before .before .before .goal .ensures) (c .before .before .before .before .before .before .before .before .before .before .before .before .before .before .before .before .before .before .before .before .pre .1 .1 .1 .1 .1))
+    (λ c. omega (arith, c .before .before .before .before .before .before .before .before .before .before .before .before .before .before .before .before .before .before .before .before .before .pre .1 .1 .1 .1 .0 .3))
+    (λ c. let p = c .before .before .before .before .before .before .before .before .before .before .before .before .before .before .before .before .before .before .before .before .before .pre in
+    let o = c .before .before .before .before .before .before .before .before .before .before .before .before .before .part-at .ensures in
+    let G = c .before .before .before .before .before .before .before .before .goal .ensures in
+    let n = c .before .before .before .before .before .before .before .if2 .left in (
       record {
-        is-so = worked-move _ _ _ _ _ _ _ _ _ _ _ (o .is) refl (G .is) n (c .before .moved .ensures .is);
+        is-so = worked-move _ _ _ _ _ _ _ _ _ _ _ _ (o .is) refl (G .is) n (c .before .before .before .moved .ensures .is) (G .gain-is);
         placed = placed-set _ _ (p .1 .1 .0) (G .within);
-        counts = c .before .moved .ensures .counts;
+        counts = c .before .before .before .moved .ensures .counts;
         few = omega arith;
       },
-      known-moved _ (G .known) (goal-marked _ _ _ _ _ _ G (rw (o .is) at n) (p .1 .1 .1 .1 .0)) (c .before .before .before .rouse .ensures),
+      known-moved _ (G .known) (goal-marked _ _ _ _ _ _ G (rw (o .is) at n) (p .1 .1 .1 .1 .0 .0)) (c .before .before .before .before .before .rouse .ensures),
     )))

@@ -1,5 +1,5 @@
 -- The front of the caller's table is refined; what stands past the vertices stays.
-use Rattle.refine.proofs.Down.{front-long, front-joins, front-refined}
+use Rattle.refine.proofs.Down.{front-refined}
 use borrow.Author.Needs.{needs}
 use Rattle.refine.proofs.refine.Statement.{statement}
 use Rattle.refine.proofs.refine.Tie as tie
@@ -12,7 +12,4 @@ refine-spec =
     (λ c. search needs)
     (λ c κs. search needs)
     (λ c. search needs)
-    (λ c. let s = c .before .before .before .before .before .before .before .before .before .before .before .before .before .before in front-long (s .args .table .now) (s .pre .1 .0) _ (c .before .before .before .refine-down .ensures))
-    (λ c κs. let s = c .before .before .before .before .before .before .before .before .before .before .before .before .before .before in front-joins (s .args .table .now) (s .pre .1 .0) _ (c .before .before .before .refine-down .ensures))
-    (λ c. search needs)
-    (λ c. let s = c .before .before .before .before .before .before .before .before .before .before .before .before .before .before .before in front-refined (s .args .table .now) (s .pre .1 .0) _ (c .before .before .before .before .refine-down .ensures) (c .cut-of .ensures)))
+    (λ c. let d = c .before .before .refine-down .ensures in front-refined (c .before .before .before .before .before .before .before .before .before .before .before .before .before .before .before .args .table .now) (c .before .before .before .before .before .before .before .before .before .before .before .before .before .before .before .pre .1 .0) _ (d .0) (d .1)))

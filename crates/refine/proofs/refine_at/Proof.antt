@@ -33,6 +33,8 @@ refine-at-spec =
     (λ c. search needs)
     (λ c. search needs)
     (λ c. let p = c .before .before .before .before .before .before .before .before .before .before .before .before .before .before .pre in omega (arith, stored-held (p .1 .1 .0), c .before .before .before .wide .ensures))
-    (λ c κs. let p = c .before .before .before .before .before .before .before .before .before .before .before .before .before .before .before .before .pre in rw (c .before .before .before .before .before .wide .ensures, row-part, row-part, row-part, row-part) (p .0, (p .1 .0, p .1 .1 .0 .is _ (omega arith))))
+    (λ c κs. let p = c .before .before .before .before .before .before .before .before .before .before .before .before .before .before .before .before .pre in
+    let w = c .before .before .before .before .before .wide .ensures in
+    (rw row-part (p .0), (p .1 .0, (rw (w, row-part, row-part, row-part, row-part) (p .1 .1 .0 .is _ (omega arith)), rw (w, row-part, row-part) (p .1 .1 .1 .0 .linked)))))
     (λ c. search needs)
     (λ c. rw row-part at (c .before .before .refine-row .ensures)))

@@ -1,3 +1,4 @@
+-- the two ends are read, and compared
 use Rattle.topology.specs.Counts.{cross}
 use native.Mathlib.Omega.{arith}
 use borrow.Author.Tests.{eq-eqb, ne-eqb}
@@ -12,5 +13,5 @@ across-spec =
     (tie.spec
     (λ c κs. search needs)
     (λ c κs. search needs)
-    (λ c. record { is = rw (← c .before .before .cluster .ensures .is, ← c .before .cluster2 .ensures .is, eq-eqb _ _ (c .if1 .taken)); low = omega arith })
-    (λ c. record { is = rw (← c .before .before .cluster .ensures .is, ← c .before .cluster2 .ensures .is, ne-eqb _ _ (c .if1 .left)); low = omega arith }))
+    (λ c. record { is = rw (← c .before .before .end-at .ensures .is, ← c .before .end-at2 .ensures .is, eq-eqb _ _ (c .if1 .taken)); low = omega arith })
+    (λ c. record { is = rw (← c .before .before .end-at .ensures .is, ← c .before .end-at2 .ensures .is, ne-eqb _ _ (c .if1 .left)); low = omega arith }))

@@ -1,3 +1,4 @@
+-- put where nothing is waited for, else left
 use Rattle.folds.proofs.Cases.{cases}
 use borrow.Author.Needs.{needs}
 use Rattle.topology.proofs.admit.Statement.{statement}

@@ -1,5 +1,5 @@
+-- an unmarked one other than u is marked and queued, and the queue has room for it
 use Rattle.topology.proofs.Searching.{entered-same, entered-old, entered-new, queue-room}
-use native.Mathlib.Omega.{arith}
 use borrow.Author.Needs.{needs}
 use Rattle.topology.proofs.enter.Statement.{statement}
 use Rattle.topology.proofs.enter.Tie as tie

@@ -1,3 +1,4 @@
+-- the pool has those below i that wait for nothing
 use Rattle.topology.proofs.Opens.{gather-none, gather-turn}
 use Rattle.topology.specs.Counts.{openAt}
 use Rattle.pool.specs.Pool.{Kept}

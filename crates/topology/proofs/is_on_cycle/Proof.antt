@@ -10,6 +10,6 @@ is-on-cycle-spec =
     tie.close
     (tie.spec
     (λ c. search needs)
-    (λ c. sym (is-aside _ (c .before .before .before .before .before .pre .1 .1 .0 .1) (c .if1 .taken)))
+    (λ c. sym (is-aside _ (c .before .before .before .before .pre .1 .1 .0 .1) (c .if1 .taken)))
     (λ c κs. search needs)
     (λ c. search needs))

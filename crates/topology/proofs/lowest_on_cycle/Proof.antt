@@ -11,7 +11,7 @@ lowest-on-cycle-spec =
     tie.close
     (tie.spec
     (λ c κs. search needs)
-    (λ c κs. let p = c .before .before .before .before .before .before .before .before .before .pre in (p .0, (c .before .before .before .fill-leaving .ensures, (p .1 .1 .0, omega (arith, p .1 .1 .0, p .1 .1 .1)))))
-    (λ c. let p = c .before .before .before .before .before .before .before .before .before .before .before .pre in (all-taken _ _ (p .1 .0) (c .before .order-by .ensures .0) (c .if1 .taken), (c .before .order-by .ensures .1, c .before .before .before .before .before .fill-leaving .ensures)))
-    (λ c κs. let p = c .before .before .before .before .before .before .before .before .before .before .before .before .before .before .pre in let o = c .before .before .before .before .order-by .ensures in (p .0, (c .before .before .before .before .before .before .before .before .fill-leaving .ensures, ((p .1 .0, p .1 .1 .0), ordering _ _ _ (p .1 .1 .0) (o .0) (o .1)))))
-    (λ c. (c .search-rest .ensures, (c .before .before .before .before .before .order-by .ensures .1, c .before .before .before .before .before .before .before .before .before .fill-leaving .ensures))))
+    (λ c κs. let p = c .before .before .before .before .before .before .before .before .pre in (p .0, (c .before .before .before .link-leaving .ensures, (p .1 .1 .0, omega (arith, p .1 .1 .0, p .1 .1 .1)))))
+    (λ c. let p = c .before .before .before .before .before .before .before .before .before .before .pre in (all-taken _ _ (p .1 .0) (c .before .order-by .ensures .0) (c .if1 .taken), (c .before .order-by .ensures .1, c .before .before .before .before .before .link-leaving .ensures)))
+    (λ c κs. let p = c .before .before .before .before .before .before .before .before .before .before .before .before .before .pre in let o = c .before .before .before .before .order-by .ensures in (p .0, (c .before .before .before .before .before .before .before .before .link-leaving .ensures, ((p .1 .0, p .1 .1 .0), ordering _ _ _ (p .1 .1 .0) (o .0) (o .1)))))
+    (λ c. (c .search-rest .ensures, (c .before .before .before .before .before .order-by .ensures .1, c .before .before .before .before .before .before .before .before .before .link-leaving .ensures))))

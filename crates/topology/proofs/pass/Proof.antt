@@ -1,3 +1,4 @@
+-- one edge fewer is waited for at b, which opens where it was the last
 use Rattle.topology.proofs.Opens.{pass-none, pass-high, pass-low}
 use native.Mathlib.Omega.{arith}
 use borrow.Author.Needs.{needs}

@@ -1,21 +1,22 @@
+-- the edges of u below j no longer count; the links lead past none of them
 use Rattle.topology.proofs.Waiting.{released-none, released-room, released-turn}
 use Rattle.topology.specs.Counts.{Released}
 use Rattle.graph.proofs.Links.{On, walk-on, walk-next, walk-less, on-end}
-use Rattle.graph.specs.Graph.{arcs}
+use Rattle.graph.specs.Graph.{joining}
 use Rattle.graph.specs.Links.{leave}
 use lib.ListN.{length}
 use native.Mathlib.Omega.{arith}
-use mathlib.Core.Path.{_≡_, refl, sym, _∙_}
-use Prim.Native.Nat.{ℕ, _≤_, _<_, _-_, _+_}
+use mathlib.Core.Path.{_≡_, refl}
+use Prim.Native.Nat.{_-_}
 use borrow.Author.Needs.{needs}
 use Rattle.topology.proofs.release.Statement.{statement}
 use Rattle.topology.proofs.release.Tie as tie
 
 abbrev Inv-loop : tie.InvT-loop
-Inv-loop row starts ends head next u g count₀ pool₀ m j₀ count pool j = (m ≡ length starts) × On (leave (arcs row starts ends)) m u j × Released (arcs row starts ends) u j g count₀ pool₀ count pool
+Inv-loop starts ends head next u g count₀ pool₀ m j₀ count pool j = (m ≡ length starts) × On (leave (joining starts ends)) m u j × Released (joining starts ends) u j g count₀ pool₀ count pool
 
 abbrev μ-loop : tie.MeasureT-loop
-μ-loop row starts ends head next u g count₀ pool₀ m j₀ count pool j = m - j
+μ-loop starts ends head next u g count₀ pool₀ m j₀ count pool j = m - j
 
 pub release-spec : {M : Type 1} → statement M
 release-spec =
@@ -24,19 +25,19 @@ release-spec =
     (λ c. search needs)
     (λ c. search needs)
     (λ c κs. search needs)
-    (λ c. let p = c .before .before .before .before .before .pre in
+    (λ c. let p = c .before .before .before .before .pre in
     (refl, rw (c .wide .ensures) (walk-on (p .1 .0) _ (p .1 .1 .0)), rw (c .wide .ensures) (released-none _ (p .1 .0) _ _ _ _ (p .1 .1 .0) (p .1 .1 .1 .0 .0) (p .1 .1 .1 .0 .1))))
     (λ c κs. search needs)
-    (λ c κs. let p = c .before .before .before .before .before .before .before .before .before .before .pre in
+    (λ c κs. let p = c .before .before .before .before .before .before .before .before .before .pre in
     let l = c .before .before .before .before .loop in
-    let k = c .before .before .cluster .ensures in
+    let k = c .before .before .end-at .ensures in
     (k .low, (released-room _ (p .1 .0) _ _ _ _ (p .1 .1 .0) (l .j) _ _ _ (p .1 .1 .1 .1) (l .inv .1) (c .before .before .before .loop-test .taken) (k .is) (k .low) (l .inv .2), (l .inv .2 .tall, l .inv .2 .wide))))
     (λ c. search needs)
     (λ c. search needs)
     (λ c κs. search needs)
-    (λ c. omega (arith, c .wide2 .ensures, walk-less (c .before .before .before .before .before .before .before .before .before .before .before .before .before .pre .1 .0) (c .before .before .before .before .before .before .before .loop .j) (c .before .before .before .before .before .before .loop-test .taken)))
-    (λ c. let p = c .before .before .before .before .before .before .before .before .before .before .before .before .before .pre in
+    (λ c. omega (arith, c .wide2 .ensures, walk-less (c .before .before .before .before .before .before .before .before .before .before .before .before .pre .1 .0) (c .before .before .before .before .before .before .before .loop .j) (c .before .before .before .before .before .before .loop-test .taken)))
+    (λ c. let p = c .before .before .before .before .before .before .before .before .before .before .before .before .pre in
     let l = c .before .before .before .before .before .before .before .loop in
     let t = c .before .before .before .before .before .before .loop-test .taken in
-    (refl, rw (c .wide2 .ensures) (walk-next (p .1 .0) _ _ (l .inv .1) t), rw (c .wide2 .ensures) (released-turn _ (p .1 .0) _ _ _ _ (p .1 .1 .0) (l .j) _ _ _ _ _ (l .inv .1) t (c .before .before .before .before .before .cluster .ensures .is) (c .before .before .pass .ensures) (l .inv .2))))
+    (refl, rw (c .wide2 .ensures) (walk-next (p .1 .0) _ _ (l .inv .1) t), rw (c .wide2 .ensures) (released-turn _ (p .1 .0) _ _ _ _ (p .1 .1 .0) (l .j) _ _ _ _ _ (l .inv .1) t (c .before .before .before .before .before .end-at .ensures .is) (c .before .before .pass .ensures) (l .inv .2))))
     (λ c. let l = c .before .loop in rw (on-end (l .inv .1) (c .loop-test .left)) at (l .inv .2)))

@@ -13,11 +13,11 @@ find-repeat-spec =
     tie.close
     (tie.spec
     (λ c. search needs)
-    (λ c κs. (fits-roomy _ (c .before .before .before .before .before .pre) (omega arith), getD-zeros 64))
+    (λ c κs. (fits-roomy _ (c .before .before .before .before .pre) (omega arith), getD-zeros 64))
     (λ c. search needs)
     (λ c. search needs)
-    (λ c κs. (fits-roomy _ (c .before .before .before .before .before .before .pre) (omega arith), getD-zeros 1024))
+    (λ c κs. (fits-roomy _ (c .before .before .before .before .before .pre) (omega arith), getD-zeros 1024))
     (λ c. search needs)
     (λ c. search needs)
-    (λ c κs. let F = c .before .before .before .before .before .before .pre in (fits-roomy _ F (F .few), getD-zeros 4096))
+    (λ c κs. let F = c .before .before .before .before .before .pre in (fits-roomy _ F (F .few), getD-zeros 4096))
     (λ c. search needs))

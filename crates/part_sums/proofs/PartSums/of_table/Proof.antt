@@ -1,5 +1,5 @@
 -- The sums of the costs by part.
-use Rattle.counts.proofs.Totals.{zero-sums, totals-cost}
+use Rattle.graph.proofs.Totals.{zero-sums, totals-cost}
 use mathlib.Core.Path.{refl}
 use borrow.Author.Needs.{needs}
 use Rattle.part_sums.proofs.PartSums.of_table.Statement.{statement}

@@ -1,0 +1,3 @@
+pub mod Gathers
+pub mod Flows
+pub mod Follows
