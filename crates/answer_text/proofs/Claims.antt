@@ -10,11 +10,11 @@ use native.Mathlib.Omega.{arith}
 use lib.Dec.{ltb, eqb}
 use lib.ListN.{length, getD, drop, drop-of-length-le, length-append}
 use borrow.Author.Tests.{lt-ltb, le-ltb, le-leb, eq-eqb, ltb-true, ltb-false, eqb-true}
-use Rattle.folds.specs.Fold.{over}
+use Rattle.folds.specs.Fold.{over, same}
 use Rattle.folds.proofs.Cases.{no-bool, by, and-false}
 use Rattle.folds.proofs.Cases.{chose}
 use Rattle.decimal.specs.Decimal.{digits, decimal, numbers, numbersIn}
-use Rattle.line_forms.specs.Form.{Field, printedFields, printed, printedAll, fits, same, asForm}
+use Rattle.line_forms.specs.Form.{Field, printedFields, printed, printedAll, fits, asForm}
 use Rattle.line_forms.specs.Lines.{linesOf, leading, inOrder, numbered, column}
 use Rattle.line_forms.specs.Stand.{said, FirstBad, AllStand, Low}
 use Rattle.line_forms.proofs.Form.{none-some, fits-cons, as-own, as-sound}

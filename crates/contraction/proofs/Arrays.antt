@@ -14,7 +14,8 @@ use Rattle.graph.specs.Graph.{Arcs, Inside}
 use Rattle.graph.specs.Rows.{clusters}
 use Rattle.graph.proofs.Edges.{edge-inside}
 use Rattle.contraction.specs.Rules.{Round, Keeps}
-use Rattle.contraction.specs.Next.{mateOf, together, lowestOf, numbered, joinedRow, mateIn, Mated, Joined}
+use Rattle.contraction.specs.Next.{mateOf, together, lowestOf, numbered, joinedRow}
+use Rattle.contraction.specs.Contracts.{mateIn, Mated, Joined}
 use Rattle.contraction.proofs.Mates.{Is, alone, first, second, mate-is, mate-back, keeps-disjoint}
 
 joined-ext : (row : List ℕ) (m m′ : ℕ → ℕ) → ((c : ℕ) → m c ≡ m′ c) → joinedRow row m ≡ joinedRow row m′

@@ -13,7 +13,8 @@ use Rattle.folds.proofs.Cases.{by, either, eq-or-ne}
 use Rattle.folds.proofs.Sums.{sumTo-zero, countTo-step, countTo-le}
 use Rattle.folds.proofs.Lists.{getD-zeros, length-zeros, listed}
 use Rattle.folds.proofs.Slices.{filled-end}
-use Rattle.contraction.specs.Next.{leads, lowestOf, joinedRow, mateIn, Mated, Short, Named, Joined, Renamed}
+use Rattle.contraction.specs.Next.{leads, lowestOf, joinedRow}
+use Rattle.contraction.specs.Contracts.{mateIn, Mated, Short, NamesGiven, Joined, Renamed}
 use Rattle.contraction.proofs.Next.{lowest, number, length-next, next-at, lowest-le, leads-at, number-at, lowest-together, lowest-hit, lowest-mate, lowest-apart, number-mate, next-clusters}
 
 -- after the first v vertices
@@ -30,7 +31,7 @@ pub numbering-low : {row : List ℕ} {m : ℕ → ℕ} {v count : ℕ} {names : 
 numbering-low {row} {m} {v} N = omega (arith, N .counts, countTo-le v (leads (lowestOf row m)))
 
 -- c has no number yet: it and its mate d get the next one
-pub named-new : {mates names : List ℕ} {c d count : ℕ} → d ≡ getD mates c 0 → getD names c 0 ≡ 0 → Named mates c count names (set (set names c (count + 1)) d (count + 1)) (count + 1)
+pub named-new : {mates names : List ℕ} {c d count : ℕ} → d ≡ getD mates c 0 → getD names c 0 ≡ 0 → NamesGiven mates c count names (set (set names c (count + 1)) d (count + 1)) (count + 1)
 named-new {mates} {names} {c} e z = let t = eq-eqb (getD names c 0) 0 z in rw e (record { names-are = rw t; count-is = rw t })
 
 mate-at : {mates : List ℕ} {c : ℕ} → Mated mates → c < 512 → mateIn mates c ≡ getD mates c 0
@@ -42,7 +43,7 @@ module _ (row mates : List ℕ) (S : Short row) (M : Mated mates) where
   m c = mateIn mates c
 
   pub numbering-turn : {v count r : ℕ} {names names′ : List ℕ} → v < length row → Numbering row m v names count
-      → Named mates (getD row v 0) count names names′ r → Numbering row m (v + 1) names′ r
+      → NamesGiven mates (getD row v 0) count names names′ r → Numbering row m (v + 1) names′ r
   numbering-turn {v} {count} {r} {names} {names′} l N W =
       either (eq-or-ne (lowest row m c) v) fresh seen
     where
@@ -116,7 +117,7 @@ module _ (row mates : List ℕ) (S : Short row) (M : Mated mates) where
 
   -- the same at the code's cluster, and what is then written for v
   pub name-turn : {v c b count r : ℕ} {names names′ : List ℕ} → v < length row → Read row v b c → Numbering row m v names count
-      → Named mates c count names names′ r → Numbering row m (v + 1) names′ r
+      → NamesGiven mates c count names names′ r → Numbering row m (v + 1) names′ r
   name-turn l k N W = numbering-turn l N (rw (k .is) at W)
 
   pub name-at : {v c b count : ℕ} {names : List ℕ} → v < length row → Read row v b c → Numbering row m (v + 1) names count → getD names c 0 ≡ suc (number row m (getD row v 0))

@@ -1,14 +1,15 @@
 // Joining clusters in pairs: the rules, the next row, and the law that no cycle comes of it.
 ghost use mathlib.Core.Path.{_≡_};
-ghost use Prim.Native.Nat.{_<_, _≤_};
+ghost use Prim.Native.Nat.{_<_};
 ghost use lib.ListN.{length};
-ghost use Rattle.contraction.specs.Next.{joinedRow, mateIn, Mated, Short, Named, Joined, Renamed};
+ghost use Rattle.contraction.specs.Next.{joinedRow};
+ghost use Rattle.contraction.specs.Contracts.{mateIn, Mated, Short, NamesGiven, Joined, Renamed};
 
 // Gives c and its mate the next number, where c has none. Answers how many numbers there are.
 fn name(mates: &[u16; 512], c: usize, count: usize, names: &mut [u16; 512]) -> usize
     requires { ⌜ Mated (now mates) × (c < 512) ⌝ }
     requires { ⌜ (count < 512) × (length (now names) ≡ 512) ⌝ }
-    ensures { λ r. ⌜ Named (now (mates .entry)) c count (now (names .entry)) (now (names .exit)) r ⌝ }
+    ensures { λ r. ⌜ NamesGiven (now (mates .entry)) c count (now (names .entry)) (now (names .exit)) r ⌝ }
 {
     if names[c] != 0 {
         return count;

@@ -7,18 +7,18 @@ use native.Mathlib.Omega.{arith}
 use lib.Dec.{eqb, leb, ltb}
 use lib.ListN.{length, getD, set, length-set}
 use lib.Seq.{getD-set-same, getD-set-other}
-use Rattle.folds.specs.Fold.{zeros}
+use Rattle.folds.specs.Fold.{zeros, mostCost, mostWidth}
 use Rattle.folds.proofs.Cases.{either, eq-or-ne}
 use Rattle.folds.proofs.Lists.{getD-zeros, length-zeros}
 use Rattle.graph.specs.Graph.{via}
-use Rattle.division.specs.Division.{between}
-use Rattle.division.specs.Table.{span, within, Weights, Column, Done}
-use Rattle.division.specs.Fewest.{Before, After}
-use Rattle.division.proofs.Intervals.{leaving, outOf, intoFrom, leaving-none, into-next, into-none}
-use Rattle.division.proofs.Spans.{span-between, span-leaves}
-use Rattle.division.proofs.Tables.{span-mono, span-narrow, span-front}
-use Rattle.division.proofs.Sweeps.{done-next}
-use Rattle.division_scan.specs.Scan.{fromTo, startingAt, Room, Gathered, Positioned, leavingBy, awayBy, enteringBy, Flows, Costs, Tabled}
+use Rattle.division_table.specs.Division.{between}
+use Rattle.division_table.specs.Contracts.{span, within, RunWeights, Column, LeastFrom}
+use Rattle.division_table.specs.Fewest.{Before, After}
+use Rattle.division_table.proofs.Intervals.{leaving, outOf, intoFrom, leaving-none, into-next, into-none}
+use Rattle.division_table.proofs.Spans.{span-between, span-leaves}
+use Rattle.division_table.proofs.Tables.{span-mono, span-narrow, span-front}
+use Rattle.division_table.proofs.Sweeps.{done-next}
+use Rattle.division_scan.specs.Scan.{fromTo, startingAt, IntoRoom, Gathered, Positioned, leavingBy, awayBy, enteringBy, Flows, Costs, CutsKnown}
 use Rattle.division_scan.proofs.Gathers.{narrow-part}
 
 -- the cost of all from y - 1 on
@@ -26,16 +26,16 @@ pub rest-next : (cost : List ℕ) {g y rest : ℕ} → 0 < y → y ≤ g → res
 rest-next cost {g} {y} l h e =
     let q : y ≡ (y - 1) + 1 = omega arith in omega (arith, span-front cost (y - 1) g (omega arith), ap (λ (i : ℕ). span cost i g) q)
 
-pub rest-room : {cost : List ℕ} {g y rest : ℕ} → Costs cost g → 0 < y → y ≤ g → rest ≡ span cost y g → rest + getD cost (y - 1) 0 ≤ 33553920
+pub rest-room : {cost : List ℕ} {g y rest : ℕ} → Costs cost g → 0 < y → y ≤ g → rest ≡ span cost y g → rest + getD cost (y - 1) 0 ≤ mostCost
 rest-room {cost} {g} {y} C l h e = omega (arith, rest-next cost l h e, C .light, span-narrow cost 0 (y - 1) g (omega arith))
 
 module _ {places starts ends widths : List ℕ} {g : ℕ} (P : Positioned places starts ends widths g) where
   -- what leaves an interval, or comes into a position, is no more than all
-  pub leaving-small : (y x : ℕ) → leavingBy places starts ends widths y x ≤ 67107840
+  pub leaving-small : (y x : ℕ) → leavingBy places starts ends widths y x ≤ mostWidth
   unfolding leavingBy leaving
   leaving-small y x = narrow-part widths (λ j. leb y (via places starts j) && ltb (via places starts j) x && leb x (via places ends j)) (P .narrow) (P .same)
 
-  pub entering-small : (y x : ℕ) → enteringBy places starts ends widths y x ≤ 67107840
+  pub entering-small : (y x : ℕ) → enteringBy places starts ends widths y x ≤ mostWidth
   unfolding enteringBy intoFrom
   entering-small y x = narrow-part widths (λ j. leb y (via places starts j) && eqb (via places ends j) x) (P .narrow) (P .same)
 
@@ -69,7 +69,7 @@ module _ {places starts ends widths : List ℕ} {g : ℕ} (P : Positioned places
       }
 
   -- the widths that come in are no more than all
-  pub flows-room : {y : ℕ} {away into : List ℕ} → Flows places starts ends widths g y away into → Room into
+  pub flows-room : {y : ℕ} {away into : List ℕ} → Flows places starts ends widths g y away into → IntoRoom into
   flows-room {y} F = record { tall = F .deep; low = λ x. omega (arith, F .intos x, entering-small y x) }
 
   module _ (y : ℕ) (away into : List ℕ) (F : Flows places starts ends widths g y away into) where
@@ -78,7 +78,7 @@ module _ {places starts ends widths : List ℕ} {g : ℕ} (P : Positioned places
     away-leaves =
         span-leaves (length starts) (via places starts) (via places ends) (λ j. getD widths j 0) (P .forward) away into y g (F .aways .outs) (λ x _ _. F .intos x)
 
-    flows-weights : (cost : List ℕ) → Costs cost g → Weights g y cost away into
+    flows-weights : (cost : List ℕ) → Costs cost g → RunWeights g y cost away into
     unfolding awayBy outOf between
     flows-weights cost C =
         record {
@@ -98,20 +98,20 @@ module _ {places starts ends widths : List ℕ} {g : ℕ} (P : Positioned places
   -- a turn: what the sweep of position y - 1 asks, and what it leaves
   module _ (bound y : ℕ) (cost away into into′ cuts : List ℕ) (r rest : ℕ) (ly : 0 < y) (lg : y ≤ g) (small : g ≤ 512)
       (C : Costs cost g) (F : Flows places starts ends widths g y away into) (R : Gathered places starts ends widths (y - 1) (length starts) into into′ r)
-      {i : ℕ} (few : i ≤ 16) (e : rest ≡ span cost y g) {before : List ℕ} (D : Done i g (within cost bound) (leavingBy places starts ends widths) before y cuts) where
+      {i : ℕ} (few : i ≤ 16) (e : rest ≡ span cost y g) {before : List ℕ} (D : LeastFrom i g (within cost bound) (leavingBy places starts ends widths) before y cuts) where
     pub turn-flows : Flows places starts ends widths g (y - 1) (set away (y - 1) r) into′
     turn-flows = let q : y ≡ (y - 1) + 1 = omega arith in flows-next (y - 1) away into into′ r (omega arith) (rw q at F) R
 
-    pub turn-weights : Weights g (y - 1) cost (set away (y - 1) r) into′
+    pub turn-weights : RunWeights g (y - 1) cost (set away (y - 1) r) into′
     turn-weights = flows-weights (y - 1) (set away (y - 1) r) into′ turn-flows cost C
 
     pub turn-done : {after cuts′ : List ℕ} {b a : ℕ} → Before g (within cost bound) before → After g (within cost bound) 0 after → b ≡ getD before (y - 1) 0 → a ≡ getD after (y - 1) 0
         → Column bound (rest + getD cost (y - 1) 0) (y - 1) i b a g cost (set away (y - 1) r) into′ cuts cuts′
-        → Done i g (within cost bound) (leavingBy places starts ends widths) before (y - 1) cuts′
+        → LeastFrom i g (within cost bound) (leavingBy places starts ends widths) before (y - 1) cuts′
     turn-done B A p o K =
         let q : y ≡ (y - 1) + 1 = omega arith in
         done-next few (omega arith) (rest-next cost ly lg e) leaving-small (away-leaves (y - 1) (set away (y - 1) r) into′ turn-flows) B A (rw q at D) (rw (p, o) at K)
 
 pub tabled-end : {n : ℕ} {places starts ends widths cost before : List ℕ} {bound g y : ℕ} {away into cuts : List ℕ} → Flows places starts ends widths g y away into → Before g (within cost bound) before
-    → Done n g (within cost bound) (leavingBy places starts ends widths) before y cuts → Tabled n places starts ends widths cost bound g y away cuts
+    → LeastFrom n g (within cost bound) (leavingBy places starts ends widths) before y cuts → CutsKnown n places starts ends widths cost bound g y away cuts
 tabled-end {before = before} F B D = record { aways = F .aways; before = before; counts = B; done = D }

@@ -13,9 +13,9 @@ use Rattle.folds.proofs.Sums.{sumTo-none}
 use Rattle.folds.proofs.Lists.{getD-zeros, length-zeros}
 use Rattle.folds.proofs.Searches.{firstTo-found, firstTo-all}
 use Rattle.graph.specs.Graph.{via}
-use Rattle.division.specs.Table.{leads, nextBy}
-use Rattle.division.proofs.Intervals.{outOf, intoFrom, leaving-next, into-next}
-use Rattle.division_scan.specs.Scan.{fromTo, startingAt, Room, Gathered, Positioned, leavingBy, enteringBy, Brought}
+use Rattle.division_table.specs.Contracts.{leads, nextBy}
+use Rattle.division_table.proofs.Intervals.{outOf, intoFrom, leaving-next, into-next}
+use Rattle.division_scan.specs.Scan.{fromTo, startingAt, IntoRoom, Gathered, Positioned, leavingBy, enteringBy, Brought}
 use Rattle.division_scan.proofs.Flows.{leaving-small, entering-small}
 
 -- no position up to x is the start that follows y
@@ -60,7 +60,7 @@ module _ {places starts ends widths : List ℕ} {g : ℕ} (P : Positioned places
   brought-none y = record { deep = length-zeros 512; is = λ z. omega (arith, getD-zeros 512 z) }
 
   module _ {y x : ℕ} {into : List ℕ} (B : Brought places starts ends widths y x into) where
-    pub brought-room : Room into
+    pub brought-room : IntoRoom into
     brought-room = record { tall = B .deep; low = λ z. omega (arith, B .is z, entering-small P y z) }
 
     module _ {into′ : List ℕ} {w : ℕ} (R : Gathered places starts ends widths x (length starts) into into′ w) where

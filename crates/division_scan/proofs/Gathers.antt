@@ -7,7 +7,7 @@ use native.Mathlib.Omega.{arith}
 use lib.Dec.{eqb}
 use lib.ListN.{length, getD, set, length-set}
 use borrow.Author.Tests.{eq-eqb, ne-eqb}
-use Rattle.folds.specs.Fold.{when, sumTo}
+use Rattle.folds.specs.Fold.{when, sumTo, mostWidth}
 use Rattle.folds.proofs.Cases.{when-le}
 use Rattle.folds.proofs.Sums.{sumTo-mono, sumTo-step, sumTo-less}
 use Rattle.folds.proofs.Lists.{set-add}
@@ -17,10 +17,10 @@ use Rattle.graph.proofs.Links.{On, Only, sum-on, sum-next}
 use Rattle.division_scan.specs.Scan.{fromTo, startingAt, Gathered, LinkedBy}
 
 -- some of the widths, and one more
-pub narrow-part : (widths : List ℕ) {m : ℕ} (t : ℕ → Bool) → Narrow widths → length widths ≡ m → sumTo m (λ j. when (t j) (getD widths j 0)) ≤ 67107840
+pub narrow-part : (widths : List ℕ) {m : ℕ} (t : ℕ → Bool) → Narrow widths → length widths ≡ m → sumTo m (λ j. when (t j) (getD widths j 0)) ≤ mostWidth
 narrow-part widths {m} t n e = omega (arith, sumTo-mono m _ (λ j. getD widths j 0) (λ k _. when-le (t k) (getD widths k 0)), ap (λ (i : ℕ). sumTo i (λ j. getD widths j 0)) e)
 
-narrow-more : (widths : List ℕ) (t : ℕ → Bool) (j : ℕ) → Narrow widths → j < length widths → sumTo j (λ k. when (t k) (getD widths k 0)) + getD widths j 0 ≤ 67107840
+narrow-more : (widths : List ℕ) (t : ℕ → Bool) (j : ℕ) → Narrow widths → j < length widths → sumTo j (λ k. when (t k) (getD widths k 0)) + getD widths j 0 ≤ mostWidth
 narrow-more widths t j n l =
     omega (
       arith,
@@ -29,11 +29,11 @@ narrow-more widths t j n l =
       sumTo-less (λ k. getD widths k 0) (j + 1) (length widths) (omega arith),
     )
 
-pub from-more : (places starts ends widths : List ℕ) (y x j : ℕ) → Narrow widths → j < length widths → sumTo j (fromTo places starts ends widths y x) + getD widths j 0 ≤ 67107840
+pub from-more : (places starts ends widths : List ℕ) (y x j : ℕ) → Narrow widths → j < length widths → sumTo j (fromTo places starts ends widths y x) + getD widths j 0 ≤ mostWidth
 unfolding fromTo
 from-more places starts ends widths y x = narrow-more widths (λ k. eqb (via places starts k) y && eqb (via places ends k) x)
 
-pub starting-more : (places starts widths : List ℕ) (y j : ℕ) → Narrow widths → j < length widths → sumTo j (startingAt places starts widths y) + getD widths j 0 ≤ 67107840
+pub starting-more : (places starts widths : List ℕ) (y j : ℕ) → Narrow widths → j < length widths → sumTo j (startingAt places starts widths y) + getD widths j 0 ≤ mostWidth
 unfolding startingAt
 starting-more places starts widths y = narrow-more widths (λ k. eqb (via places starts k) y)
 

@@ -5,13 +5,13 @@ use mathlib.Core.Bool.{_&&_}
 use mathlib.Core.List.{List}
 use lib.Dec.{eqb}
 use lib.ListN.{length, getD}
-use Rattle.folds.specs.Fold.{when, sumTo}
+use Rattle.folds.specs.Fold.{when, sumTo, mostCost, mostWidth}
 use Rattle.graph.specs.Graph.{via}
 use Rattle.graph.specs.Links.{Linked, Joins}
 use Rattle.graph.specs.Coarse.{Narrow}
-use Rattle.division.specs.Table.{span, within, Done}
-use Rattle.division.specs.Fewest.{Before}
-use Rattle.division.proofs.Intervals.{leaving, outOf, intoFrom}
+use Rattle.division_table.specs.Contracts.{span, within, LeastFrom}
+use Rattle.division_table.specs.Fewest.{Before}
+use Rattle.division_table.proofs.Intervals.{leaving, outOf, intoFrom}
 
 -- what the edges that start at y add to what comes into x
 unfoldable pub fromTo : List ℕ → List ℕ → List ℕ → List ℕ → ℕ → ℕ → ℕ → ℕ
@@ -21,9 +21,9 @@ unfoldable pub startingAt : List ℕ → List ℕ → List ℕ → ℕ → ℕ �
 startingAt places starts widths y j = when (eqb (via places starts j) y) (getD widths j 0)
 
 -- room for the widths of all edges
-pub record Room (into : List ℕ) : Type 0 where
+pub record IntoRoom (into : List ℕ) : Type 0 where
   pub tall : length into ≡ 512
-  pub low : (x : ℕ) → getD into x 0 ≤ 67107840
+  pub low : (x : ℕ) → getD into x 0 ≤ mostWidth
 
 -- the edges below j that start at y: their width is `sum`, and what they add has come in
 pub record Gathered (places starts ends widths : List ℕ) (y j : ℕ) (into into′ : List ℕ) (sum : ℕ) : Type 0 where
@@ -77,11 +77,11 @@ pub record Flows (places starts ends widths : List ℕ) (g y : ℕ) (away into :
 -- what lies at each position costs, all together no more than fits
 pub record Costs (cost : List ℕ) (g : ℕ) : Type 0 where
   pub tall : length cost ≡ 512
-  pub light : span cost 0 g ≤ 33553920
+  pub light : span cost 0 g ≤ mostCost
 
 -- the least cuts that a division with n starts can have are known from position y on
-pub record Tabled (n : ℕ) (places starts ends widths cost : List ℕ) (bound g y : ℕ) (away cuts : List ℕ) : Type 0 where
+pub record CutsKnown (n : ℕ) (places starts ends widths cost : List ℕ) (bound g y : ℕ) (away cuts : List ℕ) : Type 0 where
   pub aways : Aways places starts ends widths g y away
   pub before : List ℕ
   pub counts : Before g (within cost bound) before
-  pub done : Done n g (within cost bound) (leavingBy places starts ends widths) before y cuts
+  pub done : LeastFrom n g (within cost bound) (leavingBy places starts ends widths) before y cuts

@@ -6,9 +6,9 @@ ghost use lib.ListN.{length};
 ghost use Rattle.folds.specs.Fold.{over};
 ghost use Rattle.graph.specs.Coarse.{Narrow};
 ghost use Rattle.graph.specs.Links.{Joins};
-ghost use Rattle.division.specs.Table.{within, Table, Blank, nextBy, startsBy};
-ghost use Rattle.division.specs.Fewest.{Before, After};
-ghost use Rattle.division_scan.specs.Scan.{Room, Gathered, Positioned, LinkedBy, leavingBy, Costs, Tabled};
+ghost use Rattle.division_table.specs.Contracts.{within, Table, Blank, nextBy, startsBy};
+ghost use Rattle.division_table.specs.Fewest.{Before, After};
+ghost use Rattle.division_scan.specs.Scan.{IntoRoom, Gathered, Positioned, LinkedBy, leavingBy, Costs, CutsKnown};
 
 // Adds the edges that start at y, those of the cluster that lies there, to what comes into the positions where they end, and answers their width.
 fn gather(
@@ -25,7 +25,7 @@ fn gather(
     requires { ⌜ Joins (now places) (now starts) (now ends) ⌝ }
     requires { ⌜ LinkedBy (now order) (now places) (now starts) (now head) (now next) ⌝ }
     requires { ⌜ (y < length (now places)) × (length (now widths) ≡ length (now starts)) × Narrow (now widths) ⌝ }
-    requires { ⌜ Room (now into) ⌝ }
+    requires { ⌜ IntoRoom (now into) ⌝ }
     ensures { λ r. ⌜ Gathered (now (places .entry)) (now (starts .entry)) (now (ends .entry)) (now (widths .entry)) y (length (now (starts .entry))) (now (into .entry)) (now (into .exit)) r ⌝ }
 {
     let m = starts.len();
@@ -154,7 +154,7 @@ pub fn tabulate(
     requires { ⌜ (g ≤ 512) × (n ≤ 16) × (length (now away) ≡ 512) ⌝ }
     requires { ⌜ Table g (now cut) ⌝ }
     requires { ⌜ Blank g (now cut) ⌝ }
-    ensures { λ _. ⌜ Tabled n (now (places .entry)) (now (starts .entry)) (now (ends .entry)) (now (widths .entry)) (now (cost .entry)) bound g 0 (now (away .exit)) (now (cut .exit)) ⌝ }
+    ensures { λ _. ⌜ CutsKnown n (now (places .entry)) (now (starts .entry)) (now (ends .entry)) (now (widths .entry)) (now (cost .entry)) bound g 0 (now (away .exit)) (now (cut .exit)) ⌝ }
 {
     let mut into = [0u32; 512];
     let mut rest: u32 = 0;
@@ -173,7 +173,7 @@ pub fn tabulate(
             &mut into,
         );
         rest += cost[y];
-        division::sweep(
+        division_table::sweep(
             cost,
             away,
             &into,

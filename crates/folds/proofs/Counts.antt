@@ -1,13 +1,13 @@
 -- Laws of counts: the one that is counted as the c-th, and counts that are equal.
 use Prim.Native.Nat.{ℕ, zero, suc, _+_, _≤_, _<_}
-use mathlib.Core.Path.{_≡_, refl, sym, _∙_}
-use mathlib.Core.Bool.{Bool, true, false, _||_}
+use mathlib.Core.Path.{_≡_}
+use mathlib.Core.Bool.{Bool, true, false}
 use native.Mathlib.Omega.{arith}
-use lib.Dec.{eqb, ltb}
-use borrow.Author.Tests.{ltb-true, ltb-false, eqb-true}
+use lib.Dec.{ltb}
+use borrow.Author.Tests.{ltb-true, ltb-false}
 use Rattle.folds.specs.Fold.{when, sumTo, countTo}
-use Rattle.folds.proofs.Cases.{by, either, one-of}
-use Rattle.folds.proofs.Sums.{sumTo-none, sumTo-skip, sumTo-less, sumTo-mono, sumTo-add, sumTo-only, countTo-up}
+use Rattle.folds.proofs.Cases.{by}
+use Rattle.folds.proofs.Sums.{sumTo-none, sumTo-skip, sumTo-less, countTo-up}
 
 pub countTo-less : (j n : ℕ) (p : ℕ → Bool) → j ≤ n → countTo j p ≤ countTo n p
 unfolding countTo

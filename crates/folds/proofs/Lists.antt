@@ -7,7 +7,7 @@ use native.Mathlib.Nat.{suc-mul, mul-le-mul-right, not-suc-le-zero}
 use native.Mathlib.Numerals.{add-one}
 use native.Mathlib.Omega.{arith}
 use lib.Dec.{eqb}
-use lib.ListN.{length, getD, set, replicate, take, drop, length-append, List·getD-append, length-replicate}
+use lib.ListN.{length, getD, set, take, drop, length-append, List·getD-append, length-replicate}
 use lib.Seq.{drop-cons, take-suc, getD-set-same, getD-set-other, getD-at, ext-getD}
 use borrow.Author.Tests.{eq-eqb, ne-eqb}
 use Rattle.folds.specs.Fold.{when, listTo, zeros}
@@ -89,9 +89,6 @@ set-at-most (y ∷ d) (suc i) x b b′ l g h (suc v) = set-at-most d i x b b′ 
 -- places in a table of k rows of n
 pub row-in : (r k n : ℕ) → r < k → r * n + n ≤ k * n
 row-in r k n l = omega (arith, suc-mul r n, mul-le-mul-right n l)
-
-pub cell-in : (r k n i : ℕ) → r < k → i < n → r * n + i < k * n
-cell-in r k n i l h = omega (arith, row-in r k n l)
 
 -- a list from place i on, at the code's i + 1
 pub left-cons : {A : Type 0} (t : List A) (i : ℕ) (d : A) → i < length t → drop i t ≡ getD t i d ∷ drop (i + 1) t

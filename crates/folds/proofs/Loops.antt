@@ -19,9 +19,6 @@ turns-zero f s = refl
 pub turns-turn : {S : Type 0} {t u : S} {i : ℕ} (f : ℕ → S → S) (s : S) → t ≡ turns i f s → u ≡ f i t → u ≡ turns (i + 1) f s
 turns-turn f s e h = rw turns-step (h ∙ ap (f _) e)
 
-pub turns-end : {S : Type 0} {t : S} {i n : ℕ} (f : ℕ → S → S) (s : S) → i ≤ n → n ≤ i → t ≡ turns i f s → t ≡ turns n f s
-turns-end {i = i} {n = n} f s l g e = let q : i ≡ n = omega arith in cc
-
 -- steps that change nothing do not count
 pub turns-skip : {S : Type 0} (f : ℕ → S → S) (s : S) (j h : ℕ) → j ≤ h → ((i : ℕ) → j ≤ i → i < h → (t : S) → f i t ≡ t) → turns h f s ≡ turns j f s
 unfolding turns

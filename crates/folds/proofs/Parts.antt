@@ -1,10 +1,10 @@
 -- A part written after what is written already.
-use Prim.Native.Nat.{ℕ, zero, suc, _+_, _≤_, _<_}
-use mathlib.Core.Path.{_≡_, refl, sym, ap, ap₂, _∙_}
+use Prim.Native.Nat.{ℕ, suc, _+_, _≤_, _<_}
+use mathlib.Core.Path.{_≡_, refl, sym, ap, _∙_}
 use mathlib.Core.List.{List, [], _∷_, _++_, append-assoc}
 use native.Mathlib.Numerals.{add-one}
 use native.Mathlib.Omega.{arith}
-use lib.ListN.{length, getD, set, take, drop, take-append-drop, length-append, length-take, length-drop}
+use lib.ListN.{length, getD, set, take, drop, take-append-drop, length-append}
 use lib.Seq.{drop-cons, set-at, append-snoc, drop-drop, length-take-le, take-at, drop-at, take-suc, take-all}
 use Rattle.folds.specs.Fold.{Wrote, put, part}
 use Rattle.folds.proofs.Slices.{length-put}

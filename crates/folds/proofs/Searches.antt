@@ -1,16 +1,16 @@
 -- Laws of bounded searches and maxima, at the code's i + 1.
 use Prim.Native.Nat.{ℕ, zero, suc, _+_, _≤_, _<_, max}
-use mathlib.Core.Path.{_≡_, refl, sym, ap, subst, _∙_}
+use mathlib.Core.Path.{_≡_, refl, sym, subst, _∙_}
 use mathlib.Core.Bool.{Bool, true, false, not, _||_}
 use mathlib.Core.Logic.{⊎-elim, _⊎_, inl, inr}
-use native.Mathlib.Nat.{not-suc-le-zero, le-of-suc-le-suc, eq-or-lt-of-le}
+use native.Mathlib.Nat.{not-suc-le-zero, eq-or-lt-of-le}
 use native.Mathlib.Numerals.{add-one}
 use native.Mathlib.Omega.{arith}
 use lib.Dec.{ltb, eqb}
 use borrow.Author.Tests.{eqb-true, eqb-false, ltb-true, ltb-false, eq-eqb, ne-eqb, lt-ltb, le-ltb}
-use Rattle.folds.specs.Fold.{pick, when, sumTo, countTo, maxTo, sought, firstTo, anyTo, allTo}
+use Rattle.folds.specs.Fold.{pick, when, sumTo, countTo, maxTo, firstTo, anyTo, allTo}
 use Rattle.folds.proofs.Cases.{no-bool, by, either, eq-or-ne, last-or, not-no, one-of, or-l, or-r, same-test}
-use Rattle.folds.proofs.Sums.{sumTo-zero, sumTo-member, sumTo-none}
+use Rattle.folds.proofs.Sums.{sumTo-member, sumTo-none}
 
 pub firstTo-zero : (p : ℕ → Bool) → firstTo 0 p ≡ 0
 unfolding firstTo

@@ -1,5 +1,5 @@
 -- Laws of loops that write the front of a slice, one store a turn, and of a part that a callee wrote.
-use Prim.Native.Nat.{ℕ, zero, suc, _+_, _≤_, _<_}
+use Prim.Native.Nat.{ℕ, _+_, _-_, _≤_, _<_}
 use mathlib.Core.Path.{_≡_, refl, sym, ap, ap₂, _∙_}
 use mathlib.Core.List.{List, [], _∷_, _++_, append-nil}
 use native.Mathlib.Numerals.{add-one}
@@ -80,6 +80,13 @@ pub length-part : (l : List ℕ) (a n : ℕ) → a + n ≤ length l → length (
 unfolding part
 length-part l a n h = simp (length-take, length-drop) (omega arith)
 
--- the same at an index that is n
-pub filled-at : {l₀ l : List ℕ} {i n : ℕ} {f : ℕ → ℕ} → Filled l₀ l i f → i ≡ n → l ≡ over (listTo n f) l₀
-filled-at w e = filled-end (rw e at w)
+-- a list that is as long is written over whole
+pub over-whole : (all l : List ℕ) → length all ≡ length l → over all l ≡ all
+over-whole all l e =
+    let n : length (over all l) ≡ length all = length-over all l (omega arith) ∙ sym e in
+    sym (take-all (length all) (over all l) (omega arith)) ∙ take-over all l (length all) refl
+
+-- a slice from a to a + n
+pub slice-part : (l : List ℕ) (a n : ℕ) → take (a + n - a) (drop a l) ≡ part l a n
+unfolding part
+slice-part l a n = let q : a + n - a ≡ n = omega arith in rw q

@@ -1,6 +1,6 @@
 -- Laws of bounded sums and counts, at the code's i + 1.
 use Prim.Native.Nat.{ℕ, zero, suc, _+_, _*_, _≤_, _<_}
-use mathlib.Core.Path.{_≡_, refl, sym, ap, ap₂, _∙_}
+use mathlib.Core.Path.{_≡_, refl, sym, ap, ap₂}
 use mathlib.Core.Bool.{Bool, true, false, _||_}
 use mathlib.Core.Logic.{⊎-elim}
 use native.Mathlib.Nat.{suc-mul, not-suc-le-zero, eq-or-lt-of-le}

@@ -91,3 +91,17 @@ put l a p = take a l ++ (p ++ drop (a + length p) l)
 -- the n entries of l from a on
 unfoldable pub part : List ℕ → ℕ → ℕ → List ℕ
 part l a n = take n (drop a l)
+
+-- whether two lists are the same
+unfoldable pub same : List ℕ → List ℕ → Bool
+same [] [] = true
+same [] (b ∷ m) = false
+same (a ∷ l) [] = false
+same (a ∷ l) (b ∷ m) = eqb a b && same l m
+
+-- document 01's ranges: all costs of a kit, 512 of at most 65,535, and all its widths, 1,024 of these
+abbrev pub mostCost : ℕ
+mostCost = 33553920
+
+abbrev pub mostWidth : ℕ
+mostWidth = 67107840

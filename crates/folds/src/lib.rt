@@ -13,13 +13,6 @@ pub fn at16(s: &[u16], i: usize) -> usize
     s[i] as usize
 }
 
-pub fn at8(s: &[u8], i: usize) -> usize
-    requires { ⌜ i < length (now s) ⌝ }
-    ensures { λ r. ⌜ Read (now (s .entry)) i 256 r ⌝ }
-{
-    s[i] as usize
-}
-
 // A number as a usize: asks no proof that it fits.
 pub fn wide(x: u16) -> usize
     ensures { λ r. ⌜ r ≡ x ⌝ }

@@ -14,7 +14,7 @@ use Rattle.folds.proofs.Lists.{length-listTo, row-in}
 use Rattle.folds.proofs.Sums.{sumTo-ext, sumTo-when, sumTo-only, sumTo-swap}
 use Rattle.graph.specs.Graph.{Graph, graphOf, edges, via, identity, Arcs, arcs, joining, seen, edge, widthOf, Formed, RowOf, Inside}
 use Rattle.graph.specs.Links.{Ended}
-use Rattle.graph.specs.Rung.{rungOf}
+use Rattle.graph.specs.RowGraph.{rowGraph}
 use Rattle.graph.specs.Coarse.{Coarse, Stored}
 use Rattle.graph.proofs.Edges.{identity-at, joining-is, row-inside, edge-arc, arc-edge}
 use Rattle.graph.proofs.Rungs.{rung-edge}
@@ -104,7 +104,7 @@ module _ {G : Graph} {row : List ℕ} {g : ℕ} {froms tos widths : List ℕ} (C
     module _ (wide : (j : ℕ) → j < edges G → 0 < getD (G .widths) j 0) where
       -- two clusters are joined in the lists exactly if an edge joins them
       pub coarse-edge : (a b : ℕ) → edge (arcs (identity g) froms tos) a b ≡ edge (seen G row) a b
-      unfolding rungOf
+      unfolding rowGraph
       coarse-edge a b =
           let (there, back) = rung-edge (graphOf (identity g) froms tos widths) (identity g) row g coarse-formed coarse-row (C .wide) a b in
           let (up, down) = rung-edge G row row g F R wide a b in

@@ -1,18 +1,17 @@
 -- Edges between clusters, read off the lists and back; the cut and the costs of parts.
-use Prim.Native.Nat.{ℕ, zero, suc, _+_, _*_, _≤_, _<_}
+use Prim.Native.Nat.{ℕ, zero, suc, _≤_, _<_}
 use mathlib.Core.Path.{_≡_, refl, sym, ap, ap₂, fun-ext, _∙_}
-use mathlib.Core.Bool.{Bool, true, false, not, _&&_}
+use mathlib.Core.Bool.{not, _&&_}
 use mathlib.Core.List.{List}
 use native.Mathlib.Omega.{arith}
 use lib.Dec.{eqb, ltb}
 use lib.ListN.{length, getD}
 use borrow.Author.Tests.{eqb-true, eqb-false, eq-eqb, ne-eqb, ltb-true, ltb-false}
-use Rattle.folds.specs.Fold.{when, sumTo, anyTo, listTo}
+use Rattle.folds.specs.Fold.{listTo}
 use Rattle.folds.proofs.Cases.{both, both-i, not-yes, by, when-le}
 use Rattle.folds.proofs.Searches.{any-i, any-e}
-use Rattle.folds.proofs.Sums.{sumTo-ext}
 use Rattle.folds.proofs.Lists.{getD-past, getD-listTo, length-listTo}
-use Rattle.graph.specs.Graph.{Graph, vertices, edges, via, identity, Arcs, arcs, joining, seen, edge, Edge, crossing, cut, costIn, partCost, through, Formed, RowOf, Inside}
+use Rattle.graph.specs.Graph.{Graph, vertices, via, identity, Arcs, arcs, joining, seen, edge, Edge, crossing, costIn, through, Formed, RowOf, Inside}
 
 module _ (A : Arcs) where
   -- edge j, read as an edge between clusters, and back
@@ -91,12 +90,3 @@ crossing-le A widths b h j = omega (arith, h j, when-le (not (eqb (A .from j) (A
 pub cost-in-le : (costs parts : List ℕ) (u b : ℕ) → ((k : ℕ) → getD costs k 0 ≤ b) → (v : ℕ) → costIn costs parts u v ≤ b
 unfolding costIn
 cost-in-le costs parts u b h v = omega (arith, h v, when-le (eqb (getD parts v 0) u) (getD costs v 0))
-
--- the cut and the costs depend on what the table says of the graph's vertices alone
-pub cut-ext : (G : Graph) (f h : List ℕ) → Formed G → ((v : ℕ) → v < vertices G → getD f v 0 ≡ getD h v 0) → cut (seen G f) (G .widths) ≡ cut (seen G h) (G .widths)
-unfolding cut crossing
-cut-ext G f h F e = sumTo-ext (edges G) _ _ (λ j l. rw (e _ (F .start-in j l), e _ (F .end-in j l)))
-
-pub part-cost-ext : (costs f h : List ℕ) (u : ℕ) → ((v : ℕ) → v < length costs → getD f v 0 ≡ getD h v 0) → partCost costs f u ≡ partCost costs h u
-unfolding partCost costIn
-part-cost-ext costs f h u e = sumTo-ext (length costs) _ _ (λ v l. rw (e v l))

@@ -1,21 +1,20 @@
 -- Links made from the last edge down, and walks along them.
-use Prim.Native.Nat.{ℕ, zero, suc, _+_, _-_, _≤_, _<_}
+use Prim.Native.Nat.{ℕ, _+_, _-_, _≤_, _<_}
 use mathlib.Core.Path.{_≡_, refl, sym, ap, _∙_}
-use mathlib.Core.Bool.{Bool, true, false}
+use mathlib.Core.Bool.{Bool, false}
 use mathlib.Core.Logic.{⊎-elim}
 use mathlib.Core.List.{List}
 use native.Mathlib.Nat.{eq-or-lt-of-le}
 use native.Mathlib.Omega.{arith}
-use lib.Dec.{eqb}
 use borrow.Author.Tests.{eq-eqb, ne-eqb}
 use lib.ListN.{length, getD, set, replicate, getD-replicate, length-set}
 use lib.Seq.{getD-set-same, getD-set-other}
-use Rattle.folds.specs.Fold.{pick, sumTo, firstTo, turns, Read}
+use Rattle.folds.specs.Fold.{sumTo, firstTo, turns, Read}
 use Rattle.folds.proofs.Cases.{either, eq-or-ne}
 use Rattle.folds.proofs.Sums.{sumTo-zero, sumTo-turn, sumTo-skip}
 use Rattle.folds.proofs.Searches.{firstTo-zero, firstTo-more, firstTo-skip}
 use Rattle.folds.proofs.Loops.{turns-zero, turns-turn, turns-skip}
-use Rattle.graph.specs.Graph.{via, Arcs}
+use Rattle.graph.specs.Graph.{Arcs}
 use Rattle.graph.specs.Links.{Hop, Linked, Ends, Joins, Cluster, leave}
 
 -- the links of the edges from j on

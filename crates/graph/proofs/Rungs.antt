@@ -1,18 +1,18 @@
 -- Both views of a rung agree: sums on the clusters' graph are those on the vertices below.
-use Prim.Native.Nat.{ℕ, zero, suc, _+_, _≤_, _<_}
+use Prim.Native.Nat.{ℕ, _≤_, _<_}
 use mathlib.Core.Path.{_≡_, refl, sym, ap, _∙_}
 use mathlib.Core.Bool.{Bool, true, false, not, _&&_}
 use mathlib.Core.List.{List}
 use mathlib.Core.Logic.{_↔_}
 use native.Mathlib.Omega.{arith}
 use lib.Dec.{eqb}
-use lib.ListN.{length, getD}
-use borrow.Author.Tests.{eqb-true, eqb-false, eq-eqb, ne-eqb}
+use lib.ListN.{getD}
+use borrow.Author.Tests.{eqb-true, eq-eqb, ne-eqb}
 use Rattle.folds.specs.Fold.{when, sumTo}
-use Rattle.folds.proofs.Cases.{by, both, both-i, eq-or-ne, either}
+use Rattle.folds.proofs.Cases.{by, both, eq-or-ne, either}
 use Rattle.folds.proofs.Sums.{sumTo-ext, sumTo-when, sumTo-only, sumTo-swap, sumTo-none, sumTo-member}
-use Rattle.graph.specs.Graph.{Graph, vertices, edges, via, Arcs, seen, edge, Edge, widthOf, crossing, cut, cutOf, costIn, partCost, through, Formed, RowOf}
-use Rattle.graph.specs.Rung.{Rung, rungOf, rungCut, rungCost}
+use Rattle.graph.specs.Graph.{Graph, vertices, edges, via, seen, edge, Edge, widthOf, crossing, cut, cutOf, costIn, partCost, through, Formed, RowOf}
+use Rattle.graph.specs.RowGraph.{rowGraph, graphCut, graphCost}
 use Rattle.graph.proofs.Edges.{through-at, edge-arc, edge-other, arc-edge}
 
 when-and : (a b : Bool) (w : ℕ) → when a (when b w) ≡ when (a && b) w
@@ -31,8 +31,8 @@ when-not t a b w = either (eq-or-ne a b) (λ e. rw (eq-eqb (t a) (t b) (ap t e))
 
 module _ (G : Graph) (row table : List ℕ) (g : ℕ) (F : Formed G) (R : RowOf G row g) where
   -- the cost of a part is the same, worked on the rung or on the vertices below
-  pub rung-cost : (u : ℕ) → rungCost (rungOf G row g) table u ≡ partCost (G .costs) (through row table) u
-  unfolding rungCost rungOf partCost costIn
+  pub rung-cost : (u : ℕ) → graphCost (rowGraph G row g) table u ≡ partCost (G .costs) (through row table) u
+  unfolding graphCost rowGraph partCost costIn
   rung-cost u =
       sumTo-ext g _ _ (λ a _. sym (sumTo-when (vertices G) (eqb (getD table a 0) u) (λ v. when (eqb (getD row v 0) a) (getD (G .costs) v 0))))
       ∙ sumTo-swap g (vertices G) (λ a v. when (eqb (getD table a 0) u) (when (eqb (getD row v 0) a) (getD (G .costs) v 0)))
@@ -60,8 +60,8 @@ module _ (G : Graph) (row table : List ℕ) (g : ℕ) (F : Formed G) (R : RowOf 
       one-share false q false w = refl
 
   -- the cut is the same, worked on the rung or on the vertices below
-  pub rung-cut : rungCut (rungOf G row g) table ≡ cutOf G (through row table)
-  unfolding rungCut rungOf cut crossing share
+  pub rung-cut : graphCut (rowGraph G row g) table ≡ cutOf G (through row table)
+  unfolding graphCut rowGraph cut crossing share
   rung-cut =
       sumTo-ext g _ _ (λ a _. sumTo-ext g _ _ (λ b _. width-share a b) ∙ sumTo-swap g (edges G) (λ b j. share a b j))
       ∙ sumTo-swap g (edges G) (λ a j. sumTo g (λ b. share a b j))
@@ -77,8 +77,8 @@ module _ (G : Graph) (row table : List ℕ) (g : ℕ) (F : Formed G) (R : RowOf 
           ∙ rw (through-at row table s (rw (R .whole) (F .start-in j l)), through-at row table e (rw (R .whole) (F .end-in j l)))
 
   -- where every width is above 0, the rung has an edge exactly where its width is above 0
-  pub rung-edge : ((j : ℕ) → j < edges G → 0 < getD (G .widths) j 0) → (a b : ℕ) → (0 < rungOf G row g .width a b) ↔ Edge (seen G row) a b
-  unfolding rungOf widthOf
+  pub rung-edge : ((j : ℕ) → j < edges G → 0 < getD (G .widths) j 0) → (a b : ℕ) → (0 < rowGraph G row g .width a b) ↔ Edge (seen G row) a b
+  unfolding rowGraph widthOf
   rung-edge wide a b = (there, back)
     where
       between : ℕ → ℕ

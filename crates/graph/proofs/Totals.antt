@@ -1,17 +1,15 @@
 -- Laws of sums by key and of the number of clusters.
-use Prim.Native.Nat.{ℕ, zero, suc, _+_, _≤_, _<_, max}
+use Prim.Native.Nat.{ℕ, suc, _+_, _≤_, _<_, max}
 use mathlib.Core.Path.{_≡_, refl, sym, _∙_}
 use mathlib.Core.List.{List}
 use native.Mathlib.Numerals.{add-one}
 use native.Mathlib.Omega.{arith}
 use lib.Dec.{eqb}
 use lib.ListN.{length, getD, set, length-set, replicate, getD-replicate}
-use borrow.Author.Tests.{eq-eqb}
-use Rattle.folds.specs.Fold.{when, sumTo, maxTo, Read}
-use Rattle.folds.proofs.Sums.{sumTo-zero, sumTo-step, sumTo-le, sumTo-ext, sumTo-only, sumTo-swap, sumTo-mono, sumTo-member}
+use Rattle.folds.specs.Fold.{when, maxTo, Read, mostCost}
+use Rattle.folds.proofs.Sums.{sumTo-zero, sumTo-step, sumTo-le}
 use Rattle.folds.proofs.Lists.{set-add}
-use Rattle.graph.specs.Graph.{Graph, vertices, costIn, partCost, Formed, Proper}
-use Rattle.graph.specs.Links.{Joins}
+use Rattle.graph.specs.Graph.{costIn, partCost}
 use Rattle.graph.proofs.Edges.{cost-in-le}
 use Rattle.graph.specs.Totals.{Keyed, Totals}
 
@@ -33,7 +31,7 @@ module _ (keys costs : List ℕ) where
             omega (arith, set-add sums c x u q, s .is u lu, sumTo-step i (λ v. when (eqb (getD keys v 0) u) (getD costs v 0)), t);
       }
 
-  pub totals-room : {g i : ℕ} (sums : List ℕ) → Totals keys costs g i sums → i ≤ 512 → ((v : ℕ) → getD costs v 0 ≤ 65535) → (u : ℕ) → u < g → getD sums u 0 ≤ 33553920
+  pub totals-room : {g i : ℕ} (sums : List ℕ) → Totals keys costs g i sums → i ≤ 512 → ((v : ℕ) → getD costs v 0 ≤ 65535) → (u : ℕ) → u < g → getD sums u 0 ≤ mostCost
   totals-room {i = i} sums s l w u lu = omega (arith, s .is u lu, sumTo-le i 65535 (costIn costs keys u) (cost-in-le costs keys u 65535 w))
 
   pub totals-cost : {g : ℕ} {sums : List ℕ} → Totals keys costs g (length costs) sums → (u : ℕ) → u < g → getD sums u 0 ≡ partCost costs keys u

@@ -5,7 +5,7 @@ use mathlib.Core.Bool.{_&&_}
 use mathlib.Core.List.{List}
 use lib.Dec.{eqb}
 use lib.ListN.{length, getD}
-use Rattle.folds.specs.Fold.{when, sumTo, part}
+use Rattle.folds.specs.Fold.{when, sumTo, part, mostWidth}
 use Rattle.graph.specs.Graph.{Graph, identity, Arcs, arcs, joining, seen, widthOf, crossing}
 use Rattle.graph.specs.Rows.{clusters}
 use Rattle.graph.specs.Links.{Linked, leave}
@@ -16,7 +16,7 @@ sent A widths u b j = when (eqb (A .from j) u && eqb (A .to j) b) (crossing A wi
 
 -- all widths together fit 32 bits with room to spare
 abbrev pub Narrow : List ℕ → Type 0
-Narrow widths = sumTo (length widths) (λ i. getD widths i 0) ≤ 67107840
+Narrow widths = sumTo (length widths) (λ i. getD widths i 0) ≤ mostWidth
 
 -- document 01: all wires from one group to another count as one with the summed width: edge i goes from froms[i] to tos[i], two of the
 -- g clusters of a row, and is as wide as all edges from the one to the other
@@ -29,7 +29,7 @@ pub record Coarse (G : Graph) (row : List ℕ) (g : ℕ) (froms tos widths : Lis
   pub apart : (i : ℕ) → i < length froms → getD froms i 0 ≡ getD tos i 0 → ⊥
   pub wide : (i : ℕ) → i < length froms → 0 < getD widths i 0
   pub once : (i j : ℕ) → i < j → j < length froms → getD froms i 0 ≡ getD froms j 0 → getD tos i 0 ≡ getD tos j 0 → ⊥
-  pub narrow : sumTo (length froms) (λ i. getD widths i 0) ≤ 67107840
+  pub narrow : sumTo (length froms) (λ i. getD widths i 0) ≤ mostWidth
   pub width : (a b : ℕ) → widthOf (arcs (identity g) froms tos) widths a b ≡ widthOf (seen G row) (G .widths) a b
 
 -- the lists of rows 0 to top lie end to end: those of row r are the first sizes[r] entries from r × m on

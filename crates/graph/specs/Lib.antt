@@ -1,6 +1,6 @@
 pub mod Walk
 pub mod Graph
-pub mod Rung
+pub mod RowGraph
 pub mod Rows
 pub mod Table
 pub mod Links

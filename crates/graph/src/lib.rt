@@ -1,11 +1,11 @@
 // Graphs, rows and tables: clusters at the ends of edges, edges in lists by key, the cut of a table, costs summed by key.
 ghost use mathlib.Core.Path.{_≡_};
-ghost use Prim.Native.Nat.{ℕ, _<_, max};
+ghost use Prim.Native.Nat.{ℕ, _<_, _≤_, max};
 ghost use lib.ListN.{length, getD};
-ghost use Rattle.folds.specs.Fold.{Read};
+ghost use Rattle.folds.specs.Fold.{Read, over};
 ghost use Rattle.graph.specs.Rows.{clusters};
 ghost use Rattle.graph.specs.Totals.{Keyed, Totals};
-ghost use Rattle.graph.specs.Graph.{arcs, joining, cut};
+ghost use Rattle.graph.specs.Graph.{arcs, joining, through, cut};
 ghost use Rattle.graph.specs.Links.{Linked, Ends, Joins, Named, Ended, Cluster, Crossing, leave, Leaves};
 
 // The cluster at which edge j has its end.
@@ -125,4 +125,18 @@ pub fn cluster_count(row: &[u16]) -> usize
         v += 1;
     }
     count
+}
+
+// The entry of `table` for the cluster of each vertex, over the front of out.
+pub fn through(row: &[u16], table: &[u16; 512], out: &mut [u16])
+    requires { ⌜ ((v : ℕ) → v < length (now row) → getD (now row) v 0 < 512) ⌝ }
+    requires { ⌜ (length (now table) ≡ 512) × (length (now row) ≤ length (now out)) ⌝ }
+    ensures { λ _. ⌜ now (out .exit) ≡ over (through (now (row .entry)) (now (table .entry))) (now (out .entry)) ⌝ }
+{
+    let mut v: usize = 0;
+    while v < row.len() {
+        let c = folds::at16(row, v);
+        out[v] = table[c];
+        v += 1;
+    }
 }

@@ -7,7 +7,7 @@ use native.Mathlib.Omega.{arith}
 use lib.ListN.{length, getD, take, drop, length-append}
 use lib.Seq.{take-at, drop-at, drop-drop}
 use Rattle.folds.specs.Fold.{part, over}
-use Rattle.hierarchy.specs.Climb.{flat}
+use Rattle.hierarchy.specs.Rounds.{flat}
 
 pub length-flat : (n : ℕ) (rows : List (List ℕ)) → ((r : ℕ) → r < length rows → length (getD rows r []) ≡ n) → length (flat rows) ≡ length rows * n
 unfolding flat

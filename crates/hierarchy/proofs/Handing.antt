@@ -1,23 +1,25 @@
--- The lists, costs and order of the next row: what the calls ask for, and what they leave.
+-- The lists, costs, order and levels of the next row: what the calls ask for, and what they leave.
 use Prim.Native.Nat.{ℕ, _+_, _-_, _*_, _≤_, _<_}
 use mathlib.Core.Path.{_≡_, sym, _∙_}
 use mathlib.Core.List.{List}
 use native.Mathlib.Nat.{suc-mul, mul-le-mul-right}
 use native.Mathlib.Omega.{arith}
-use lib.ListN.{length, getD, set, take, drop}
+use lib.ListN.{length, set, take, drop}
 use lib.Seq.{getD-set-same}
 use borrow.Rule.Slice.PartMut.{putMid}
-use Rattle.folds.specs.Fold.{over, put, part}
+use Rattle.folds.specs.Fold.{over, put, part, zeros}
 use Rattle.folds.proofs.Slices.{put-part, length-part, length-over, length-put}
 use Rattle.folds.proofs.Parts.{part-put}
-use Rattle.graph.specs.Graph.{joining}
+use Rattle.graph.specs.Graph.{joining, Inside}
 use Rattle.graph.specs.Links.{Linked, Ended, leave}
 use Rattle.graph.specs.Coarse.{LinkedAt}
 use Rattle.graph.proofs.Coarse.{coarse-ended}
 use Rattle.topology.specs.Order.{orderOf}
+use Rattle.topology.specs.Level.{levelsOf}
 use Rattle.topology.proofs.Orders.{order-few}
 use Rattle.row_lists.specs.Carry.{Next}
 use Rattle.row_lists.proofs.Carrying.{handed}
+use Rattle.hierarchy.specs.Contracts.{LevelsAt}
 
 -- places of rows of m entries
 pub next-place : (r m : ℕ) → r < 8 → r * m + m + m ≤ 9 * m
@@ -47,6 +49,11 @@ module _ {map froms tos widths froms′ tos′ widths′ : List ℕ} {g h a size
   pub next-ended : Ended (take (b + count - b) (drop b froms′)) (take (b + count - b) (drop b tos′))
   next-ended = rw (from-handed, to-handed) (coarse-ended (N .lists) few)
 
+  pub next-inside : Inside (joining (take (b + count - b) (drop b froms′)) (take (b + count - b) (drop b tos′))) h
+  next-inside =
+      let I : Inside (joining (N .from) (N .to)) h = λ j l. (N .lists .from-in j l, N .lists .to-in j l) in
+      rw (from-handed, to-handed) I
+
   pub from-fits : b + count ≤ length froms′
   from-fits = rw (N .froms-are, length-put froms b (N .from) (omega (arith, N .counts, N .few))) (omega (arith, N .few))
 
@@ -69,3 +76,12 @@ module _ {map froms tos widths froms′ tos′ widths′ : List ℕ} {g h a size
   next-links r m sizes eb lr nine L =
       let q : (r + 1) * m ≡ b = omega (arith, suc-mul r m) in
       record { linked = rw (q, getD-set-same sizes (r + 1) count 0 (omega arith)) (rw (handed froms′ b count, handed tos′ b count) at L) }
+
+  pub next-levels : {levels : List ℕ} {x : ℕ} (r m : ℕ) (sizes : List ℕ) → b ≡ r * m + m → r < 8 → length sizes ≡ 9
+      → x ≡ length (orderOf (joining (take (b + count - b) (drop b froms′)) (take (b + count - b) (drop b tos′))) h)
+      → (x ≡ h → levels ≡ over (levelsOf (joining (take (b + count - b) (drop b froms′)) (take (b + count - b) (drop b tos′))) h) (zeros 512))
+      → length (orderOf (joining (N .from) (N .to)) h) ≡ h → LevelsAt m (r + 1) h froms′ tos′ (set sizes (r + 1) count) levels
+  next-levels {levels} {x} r m sizes eb lr nine e L all =
+      let q : (r + 1) * m ≡ b = omega (arith, suc-mul r m) in
+      let y : x ≡ h = (rw (from-handed, to-handed) at e) ∙ all in
+      record { are = rw (q, getD-set-same sizes (r + 1) count 0 (omega arith)) (rw (handed froms′ b count, handed tos′ b count) at (L y)) }

@@ -16,18 +16,19 @@ use Rattle.graph.specs.Graph.{Graph, vertices, seen, RowOf}
 use Rattle.graph.specs.Rows.{clusters}
 use Rattle.graph.proofs.Edges.{row-inside}
 use Rattle.contraction.specs.Rules.{Keeps}
-use Rattle.contraction.specs.Next.{mateOf, mateIn, joinedRow, nextRow, lowestOf, leads, Mated, Short, Joined, Renamed}
+use Rattle.contraction.specs.Next.{mateOf, joinedRow, nextRow, lowestOf, leads}
+use Rattle.contraction.specs.Contracts.{mateIn, Mated, Short, Joined, Renamed}
 use Rattle.contraction.proofs.Mates.{mate-back, keeps-disjoint}
 use Rattle.contraction.proofs.Next.{length-next, next-clusters}
 use Rattle.contraction.proofs.Arrays.{mates-mated, joined-mates}
 use Rattle.matching.specs.Choice.{roundOf}
-use Rattle.matching.specs.Held.{Ready, Matched}
+use Rattle.matching.specs.Contracts.{RoundReady, Matched}
 use Rattle.matching.proofs.Choices.{round-keeps}
-use Rattle.hierarchy.specs.Climb.{large, poor, kept}
-use Rattle.hierarchy.specs.Built.{rowAt, JoinedRow}
+use Rattle.hierarchy.specs.Rounds.{large, poor, kept}
+use Rattle.hierarchy.specs.Contracts.{rowAt, JoinedRow}
 
 -- a round's mates, and the row they give
-module _ {G : Graph} {row : List ℕ} {g : ℕ} (bound : ℕ) (R : Ready G row g) where
+module _ {G : Graph} {row : List ℕ} {g : ℕ} (bound : ℕ) (R : RoundReady G row g) where
   row-own : RowOf G row (clusters row)
   row-own = rw (R .count) at (R .row-of)
 
@@ -75,7 +76,7 @@ rows-in r n m l h = omega (arith, suc-mul r n, mul-le-mul-right n l)
 pub place-low : (r n : ℕ) → r < 8 → n ≤ 512 → r * n ≤ 4096
 place-low r n l h = omega (arith, suc-mul r n, mul-le-mul-right n l)
 
-module _ (G : Graph) (k bound r g : ℕ) (rows : List ℕ) (R : Ready G (rowAt G rows r) g) where
+module _ (G : Graph) (k bound r g : ℕ) (rows : List ℕ) (R : RoundReady G (rowAt G rows r) g) where
   abbrev n : ℕ
   n = vertices G
 

@@ -10,7 +10,7 @@ use Rattle.folds.specs.Fold.{sumTo, part}
 use Rattle.graph.specs.Walk.{Acyclic}
 use mathlib.Core.Logic.{_↔_}
 use Rattle.graph.specs.Graph.{Graph, vertices, edges, identity, seen, Edge, Formed, partCost, cutOf, through}
-use Rattle.graph.specs.Rung.{Rung, rungOf, rungCut, rungCost}
+use Rattle.graph.specs.RowGraph.{RowGraph, rowGraph, graphCut, graphCost}
 use Rattle.graph.proofs.Rungs.{rung-cut, rung-cost, rung-edge}
 use Rattle.graph.specs.Rows.{clusters, Hierarchy}
 use Rattle.contraction.specs.Rules.{Round}
@@ -20,7 +20,7 @@ use Rattle.contraction.proofs.Rounds.{Sound, bottom-sound, next-sound, kept-hie
 use Rattle.contraction.proofs.Sizes.{next-half, costs-sum}
 use Rattle.matching.specs.Choice.{roundOf}
 use Rattle.matching.proofs.Choices.{round-keeps}
-use Rattle.hierarchy.specs.Climb.{large, above, rowsOf, keptOf, rowOf, droppedOf, ladderAfter}
+use Rattle.hierarchy.specs.Rounds.{large, above, rowsOf, keptOf, rowOf, droppedOf, rowsAfter}
 use Rattle.hierarchy.specs.Claim.{OwnRounds}
 use Rattle.hierarchy.proofs.Flat.{over-part}
 use Rattle.hierarchy.proofs.Tried.{run, nextOf, run-keep, run-chosen, run-rows, run-count, run-all, run-few}
@@ -62,19 +62,19 @@ module _ (G : Graph) (k bound : ℕ) (F : Formed G) (ac : Acyclic (Edge (seen G 
   kept-few = run-few G k bound (run G k bound 8 bottom .1)
 
   -- row r of the ladder afterwards
-  pub ladder-row : (ladder : List ℕ) (r : ℕ) → r ≤ keptOf G k bound → part (ladderAfter G k bound ladder) (r * n) n ≡ rowOf G k bound r
-  unfolding ladderAfter keptOf rowOf rowsOf
-  ladder-row ladder r l = over-part n (bottom ∷ above G k bound 8 bottom) ladder (λ i li. row-sound i (omega arith) .row-of .whole) r (omega arith)
+  pub stored-row : (rows′ : List ℕ) (r : ℕ) → r ≤ keptOf G k bound → part (rowsAfter G k bound rows′) (r * n) n ≡ rowOf G k bound r
+  unfolding rowsAfter keptOf rowOf rowsOf
+  stored-row rows′ r l = over-part n (bottom ∷ above G k bound 8 bottom) rows′ (λ i li. row-sound i (omega arith) .row-of .whole) r (omega arith)
 
-  pub own-rounds : (ladder : List ℕ) → (rs : List Round) × OwnRounds G k bound (ladderAfter G k bound ladder) rs
+  pub own-rounds : (rows′ : List ℕ) → (rs : List Round) × OwnRounds G k bound (rowsAfter G k bound rows′) rs
   unfolding keptOf rowOf rowsOf droppedOf
-  own-rounds ladder =
+  own-rounds rows′ =
       let (rs, R) = run G k bound 8 bottom in (
         rs,
         record {
           keep = run-keep G k bound F R (bottom-sound G ac);
           chosen = run-chosen G k bound R;
-          rows = λ r l. ladder-row ladder r l ∙ sym (run-rows G k bound R r l);
+          rows = λ r l. stored-row rows′ r l ∙ sym (run-rows G k bound R r l);
           count = run-count G k bound R;
         },
       )
@@ -101,13 +101,13 @@ module _ (G : Graph) (k bound : ℕ) (F : Formed G) (ac : Acyclic (Edge (seen G 
     abbrev own : List ℕ
     own = rowOf G k bound r
 
-    abbrev rung : Rung
-    rung = rungOf G own (clusters own)
+    abbrev rung : RowGraph
+    rung = rowGraph G own (clusters own)
 
-    pub row-cut : (table : List ℕ) → rungCut rung table ≡ cutOf G (through own table)
+    pub row-cut : (table : List ℕ) → graphCut rung table ≡ cutOf G (through own table)
     row-cut table = rung-cut G own table (clusters own) F (row-sound r l .row-of)
 
-    pub row-cost : (table : List ℕ) (u : ℕ) → rungCost rung table u ≡ partCost (G .costs) (through own table) u
+    pub row-cost : (table : List ℕ) (u : ℕ) → graphCost rung table u ≡ partCost (G .costs) (through own table) u
     row-cost table u = rung-cost G own table (clusters own) F (row-sound r l .row-of) u
 
     pub row-edge : ((j : ℕ) → j < edges G → 0 < getD (G .widths) j 0) → (a b : ℕ) → (0 < rung .width a b) ↔ Edge (seen G own) a b

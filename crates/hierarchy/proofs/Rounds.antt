@@ -20,10 +20,10 @@ use Rattle.contraction.specs.Next.{mateOf, nextRow}
 use Rattle.contraction.proofs.Next.{length-next, below-clusters}
 use Rattle.contraction.proofs.Rounds.{Sound, bottom-sound, next-sound, identity-clusters}
 use Rattle.matching.specs.Choice.{roundOf}
-use Rattle.matching.specs.Held.{Ready}
+use Rattle.matching.specs.Contracts.{RoundReady}
 use Rattle.matching.proofs.Choices.{round-keeps}
-use Rattle.hierarchy.specs.Climb.{kept, above, rowsOf, keptOf, flat, ladderAfter}
-use Rattle.hierarchy.specs.Built.{rowAt, JoinedRow, Buildable, Built}
+use Rattle.hierarchy.specs.Rounds.{kept, above, rowsOf, keptOf, flat, rowsAfter}
+use Rattle.hierarchy.specs.Contracts.{rowAt, JoinedRow, Buildable, Built}
 use Rattle.hierarchy.proofs.OneRound.{next-few, length-taken, rows-in}
 
 -- the rounds so far: row r and those below are in place, and what is above it is still to come
@@ -120,7 +120,7 @@ module _ (G : Graph) (k bound : ℕ) (B : Buildable G k) (rows₀ : List ℕ) (r
     abbrev row : List ℕ
     row = rowAt G rows r
 
-    pub joining-ready : Ready G row g
+    pub joining-ready : RoundReady G row g
     joining-ready =
         record {
           proper = B .proper;
@@ -134,11 +134,11 @@ module _ (G : Graph) (k bound : ℕ) (B : Buildable G k) (rows₀ : List ℕ) (r
     joining-length = C .wrote .same
 
     done : above G k bound (8 - r) row ≡ [] → Built G k bound rows₀ rows r
-    unfolding ladderAfter
+    unfolding rowsAfter
     done e =
         record {
           kept-is = omega (arith, C .kept-so, ap length e);
-          ladder-is = wrote-done (C .wrote) (ap flat e ∙ flat-none) .1;
+          rows-is = wrote-done (C .wrote) (ap flat e ∙ flat-none) .1;
         }
 
     pub joining-end : 8 ≤ r → Built G k bound rows₀ rows r
@@ -207,9 +207,9 @@ module _ (G : Graph) (k bound : ℕ) (B : Buildable G k) (rows₀ : List ℕ) (r
 -- row 0 first, and then the rounds
 pub built-first : {G : Graph} {k bound : ℕ} {rows rows′ q : List ℕ} {r : ℕ} → 9 * vertices G ≤ length rows → q ≡ identity (length (take (vertices G - 0) (drop 0 rows)))
     → Built G k bound (putMid 0 (vertices G - 0) rows q) rows′ r → Built G k bound rows rows′ r
-unfolding ladderAfter rowsOf
+unfolding rowsAfter rowsOf
 built-first {G} {k} {bound} {rows} room e U =
     record {
       kept-is = U .kept-is;
-      ladder-is = U .ladder-is ∙ ap (over (flat (identity (vertices G) ∷ above G k bound 8 (identity (vertices G))))) (first-put G rows room e) ∙ first-over G rows room (above G k bound 8 (identity (vertices G)));
+      rows-is = U .rows-is ∙ ap (over (flat (identity (vertices G) ∷ above G k bound 8 (identity (vertices G))))) (first-put G rows room e) ∙ first-over G rows room (above G k bound 8 (identity (vertices G)));
     }

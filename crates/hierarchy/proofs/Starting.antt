@@ -5,7 +5,7 @@ use mathlib.Core.List.{List}
 use native.Mathlib.Omega.{arith}
 use lib.ListN.{length, getD, take, length-set}
 use lib.Seq.{getD-set-same, length-take-le, take-all}
-use Rattle.folds.specs.Fold.{sumTo, put, part}
+use Rattle.folds.specs.Fold.{sumTo, over, put, part, zeros, mostCost, mostWidth}
 use Rattle.folds.proofs.Sums.{sumTo-le}
 use Rattle.folds.proofs.Lists.{getD-past}
 use Rattle.folds.proofs.Slices.{length-put}
@@ -13,13 +13,14 @@ use Rattle.folds.proofs.Parts.{part-put, take-put}
 use Rattle.graph.specs.Graph.{Graph, vertices, edges, identity, arcs, joining, seen}
 use Rattle.graph.specs.Coarse.{Coarse, LinkedAt}
 use Rattle.graph.specs.Links.{Linked, leave}
-use Rattle.graph.proofs.Edges.{row-inside, identity-row}
+use Rattle.graph.proofs.Edges.{row-inside, identity-row, joining-is}
 use Rattle.topology.specs.Order.{orderOf}
+use Rattle.topology.specs.Level.{levelsOf}
 use Rattle.topology.proofs.Orders.{order-all}
 use Rattle.contraction.proofs.Rounds.{identity-clusters}
 use Rattle.matching.proofs.Lists.{cost-identity}
 use Rattle.row_lists.specs.Carry.{First}
-use Rattle.hierarchy.specs.Built.{rowAt, Carried, Carrying, Room, Buildable}
+use Rattle.hierarchy.specs.Contracts.{rowAt, Carried, Carrying, LevelsAt, RowsRoom, Buildable}
 
 module _ (G : Graph) (k : ℕ) (B : Buildable G k) where
   abbrev n : ℕ
@@ -28,7 +29,7 @@ module _ (G : Graph) (k : ℕ) (B : Buildable G k) where
   abbrev m : ℕ
   m = edges G
 
-  own-lists : sumTo m (λ j. getD (G .widths) j 0) ≤ 67107840 → Coarse G (identity n) n (G .starts) (G .ends) (G .widths)
+  own-lists : sumTo m (λ j. getD (G .widths) j 0) ≤ mostWidth → Coarse G (identity n) n (G .starts) (G .ends) (G .widths)
   own-lists narrow =
       record {
         few = B .proper .many;
@@ -43,14 +44,14 @@ module _ (G : Graph) (k : ℕ) (B : Buildable G k) where
         width = λ a b. refl;
       }
 
-  pub widths-narrow : ((j : ℕ) → getD (G .widths) j 0 ≤ 65535) → sumTo m (λ j. getD (G .widths) j 0) ≤ 67107840
+  pub widths-narrow : ((j : ℕ) → getD (G .widths) j 0 ≤ 65535) → sumTo m (λ j. getD (G .widths) j 0) ≤ mostWidth
   widths-narrow h = omega (arith, sumTo-le m 65535 (λ j. getD (G .widths) j 0) h, B .proper .many)
 
   -- the front of a list
   front : (l p : List ℕ) → length p ≤ length l → part (put l 0 p) (0 * m) (length p) ≡ p
   front l p h = let z : 0 * m ≡ 0 = omega arith in rw z (part-put l p 0 (omega arith))
 
-  module _ {rows froms tos widths sizes orders froms′ tos′ widths′ sizes′ : List ℕ} (M : Room G rows froms tos widths sizes orders)
+  module _ {rows froms tos widths sizes orders froms′ tos′ widths′ sizes′ : List ℕ} (M : RowsRoom G rows froms tos widths sizes orders)
       (F : First (G .starts) (G .ends) (G .widths) froms tos widths sizes froms′ tos′ widths′ sizes′) where
     from-room : m ≤ length froms
     from-room = omega (arith, M .from-room)
@@ -61,7 +62,7 @@ module _ (G : Graph) (k : ℕ) (B : Buildable G k) where
     width-room : m ≤ length widths
     width-room = omega (arith, M .width-room)
 
-    pub first-kept : (rows′ : List ℕ) → 9 * n ≤ length rows′ → Room G rows′ froms′ tos′ widths′ sizes′ orders
+    pub first-kept : (rows′ : List ℕ) → 9 * n ≤ length rows′ → RowsRoom G rows′ froms′ tos′ widths′ sizes′ orders
     first-kept rows′ room =
         record {
           row-room = room;
@@ -79,7 +80,7 @@ module _ (G : Graph) (k : ℕ) (B : Buildable G k) where
         let h : length (take n orders) ≡ n = length-take-le n orders (omega (arith, M .order-room)) in
         rw y (take-all n (take n orders) (omega arith) ∙ o)
 
-    pub first-carried : (rows′ : List ℕ) → rowAt G rows′ 0 ≡ identity n → sumTo m (λ j. getD (G .widths) j 0) ≤ 67107840
+    pub first-carried : (rows′ : List ℕ) → rowAt G rows′ 0 ≡ identity n → sumTo m (λ j. getD (G .widths) j 0) ≤ mostWidth
         → take n orders ≡ orderOf (arcs (identity n) (G .starts) (G .ends)) n → Carried G (rowAt G rows′) 0 froms′ tos′ widths′ sizes′ orders
     first-carried rows′ e narrow o =
         let K = first-kept rows (M .row-room) in
@@ -122,7 +123,22 @@ module _ (G : Graph) (k : ℕ) (B : Buildable G k) where
           ) L;
         }
 
-  pub first-carrying : (rows : List ℕ) {froms tos widths sizes orders weights : List ℕ} → rowAt G rows 0 ≡ identity n → sumTo n (λ v. getD (G .costs) v 0) ≤ 33553920
+    pub first-levels : {levels : List ℕ} → levels ≡ over (levelsOf (arcs (identity n) (G .starts) (G .ends)) n) (zeros 512) → LevelsAt m 0 n froms′ tos′ sizes′ levels
+    first-levels e =
+        let z : getD sizes′ 0 0 ≡ m = rw (F .sizes-are) (getD-set-same sizes 0 m 0 (omega (arith, M .nine))) in
+        let own : arcs (identity n) (G .starts) (G .ends) ≡ joining (G .starts) (G .ends) =
+        joining-is n (G .starts) (G .ends) (B .proper .formed .start-in) (λ j l. B .proper .formed .end-in j (omega (arith, B .proper .formed .same-ends))) in
+        record {
+          are = rw (
+            z,
+            F .froms-are,
+            F .tos-are,
+            front froms (G .starts) from-room,
+            rw (B .proper .formed .same-ends) at (front tos (G .ends) (omega (arith, to-room, B .proper .formed .same-ends))),
+          ) (rw own at e);
+        }
+
+  pub first-carrying : (rows : List ℕ) {froms tos widths sizes orders weights : List ℕ} → rowAt G rows 0 ≡ identity n → sumTo n (λ v. getD (G .costs) v 0) ≤ mostCost
       → Carried G (rowAt G rows) 0 froms tos widths sizes orders → length weights ≡ 512 → ((c : ℕ) → getD weights c 0 ≡ getD (G .costs) c 0)
       → ((c : ℕ) → getD (G .costs) c 0 ≤ 65535) → Carrying G rows 0 n froms tos widths sizes orders weights
   first-carrying rows e light C tall h low =
@@ -142,7 +158,7 @@ module _ (G : Graph) (k : ℕ) (B : Buildable G k) where
         let z : 0 + length (take n order) ≡ n = omega (arith, whole) in
         rw o (ap (λ (i : ℕ). take i (put orders 0 (take n order))) (sym z) ∙ take-put orders (take n order) 0 (omega (arith, whole)) ∙ is)
 
-    pub ordered-room : {rows froms tos widths sizes : List ℕ} → Room G rows froms tos widths sizes orders → Room G rows froms tos widths sizes orders′
+    pub ordered-room : {rows froms tos widths sizes : List ℕ} → RowsRoom G rows froms tos widths sizes orders → RowsRoom G rows froms tos widths sizes orders′
     ordered-room M =
         record {
           row-room = M .row-room;

@@ -1,45 +1,51 @@
 -- One step of the loop over the rounds: what it asks for, and what is carried after it.
 use Prim.Native.Nat.{ℕ, suc, _+_, _-_, _*_, _≤_, _<_}
-use mathlib.Core.Path.{_≡_, refl, sym, ap, _∙_}
+use mathlib.Core.Path.{_≡_, sym, ap, _∙_}
 use mathlib.Core.List.{List}
 use native.Mathlib.Nat.{suc-mul, mul-le-mul-right}
 use native.Mathlib.Omega.{arith}
-use lib.ListN.{length, getD, set, take, drop, length-set}
+use lib.ListN.{length, getD, take, drop, length-set}
 use lib.Seq.{getD-take}
-use Rattle.folds.specs.Fold.{sumTo, over, put, part}
+use Rattle.folds.specs.Fold.{sumTo, over, put, part, zeros, mostCost}
 use Rattle.folds.proofs.Cases.{by, either, eq-or-ne}
 use Rattle.folds.proofs.Sums.{sumTo-ext}
 use Rattle.folds.proofs.Slices.{length-part, length-put, length-over, take-over}
 use Rattle.folds.proofs.Parts.{part-put}
-use Rattle.graph.specs.Graph.{Graph, graphOf, vertices, edges, joining, seen, partCost, through, Proper, RowOf}
+use Rattle.graph.specs.Graph.{Graph, vertices, edges, joining, seen, partCost, through, Proper, RowOf}
 use Rattle.graph.specs.Rows.{clusters}
-use Rattle.graph.specs.Coarse.{Coarse, Stored, LinkedAt}
+use Rattle.graph.specs.Coarse.{Coarse, LinkedAt}
 use Rattle.graph.specs.Links.{Linked, leave}
 use Rattle.topology.specs.Order.{orderOf}
+use Rattle.topology.specs.Level.{levelsOf}
 use Rattle.topology.proofs.Orders.{order-all}
 use Rattle.graph.proofs.Edges.{row-inside}
-use Rattle.contraction.specs.Next.{mateOf, nextRow, Renamed}
+use Rattle.contraction.specs.Next.{mateOf, nextRow}
+use Rattle.contraction.specs.Contracts.{Renamed}
 use Rattle.contraction.proofs.Next.{length-next, below-clusters}
 use Rattle.contraction.proofs.Rounds.{Sound, next-sound}
 use Rattle.joined_edges.proofs.Lists.{joined-twice}
 use Rattle.matching.specs.Choice.{roundOf}
-use Rattle.matching.specs.Held.{Ready, Weights}
+use Rattle.matching.specs.Contracts.{RoundReady}
 use Rattle.matching.proofs.Choices.{round-keeps}
-use Rattle.row_lists.specs.Carry.{Between, Maps, Next, Merged}
+use Rattle.row_lists.specs.Carry.{Maps}
 use Rattle.row_lists.proofs.Carrying.{handed}
-use Rattle.hierarchy.specs.Climb.{kept}
-use Rattle.hierarchy.specs.Built.{Carries, rowAt, JoinedRow, JoinsRow, Carried, Carrying, Room, HandsOn, HandedOn}
+use Rattle.hierarchy.specs.Rounds.{kept}
+use Rattle.hierarchy.specs.Contracts.{Carries, rowAt, JoinedRow, Carrying, LevelsAt, RowsRoom, HandsOn, HandedOn}
 use Rattle.hierarchy.proofs.OneRound.{next-few, rows-in}
 use Rattle.hierarchy.proofs.Handing.{next-place}
 use Rattle.hierarchy.proofs.Carrying.{coarse-order}
 use Rattle.hierarchy.proofs.Storing.{part-before, next-of, stored-more, costs-total, renamed-through, next-costs, next-weights}
 
--- the links of a row, as the code hands its lists on
+-- the links and the levels of a row, as the code hands its lists on
 pub links-handed : {m r s : ℕ} {froms tos sizes head next : List ℕ} → s ≡ getD sizes r 0 → LinkedAt m r froms tos sizes head next
     → Linked (leave (joining (take (r * m + s - r * m) (drop (r * m) froms)) (take (r * m + s - r * m) (drop (r * m) tos)))) (length (take (r * m + s - r * m) (drop (r * m) froms))) head next
 links-handed {m} {r} {s} {froms} {tos} e L = rw (handed froms (r * m) s, handed tos (r * m) s, e) (L .linked)
 
-module _ {G : Graph} {rows : List ℕ} {r g : ℕ} {froms tos widths sizes orders weights : List ℕ} (R : Ready G (rowAt G rows r) g) (S : Sound G (rowAt G rows r))
+pub levels-handed : {m r g s : ℕ} {froms tos sizes levels : List ℕ} → s ≡ getD sizes r 0 → LevelsAt m r g froms tos sizes levels
+    → levels ≡ over (levelsOf (joining (take (r * m + s - r * m) (drop (r * m) froms)) (take (r * m + s - r * m) (drop (r * m) tos))) g) (zeros 512)
+levels-handed {m} {r} {g} {s} {froms} {tos} e L = rw (handed froms (r * m) s, handed tos (r * m) s, e) (L .are)
+
+module _ {G : Graph} {rows : List ℕ} {r g : ℕ} {froms tos widths sizes orders weights : List ℕ} (R : RoundReady G (rowAt G rows r) g) (S : Sound G (rowAt G rows r))
     (C : Carrying G rows r g froms tos widths sizes orders weights) (small : g ≤ vertices G) where
   abbrev n : ℕ
   n = vertices G
@@ -80,8 +86,8 @@ module _ {G : Graph} {rows : List ℕ} {r g : ℕ} {froms tos widths sizes order
   carries-handed {s} e room = rw (handed froms (r * m) s, handed tos (r * m) s, handed widths (r * m) s, handed orders (r * n) n, e) (carries room)
 
   -- what is handed on
-  module _ (P : Proper G) (lr : r < 8) {rows′ : List ℕ} (M : Room G rows′ froms tos widths sizes orders) (light : sumTo n (λ v. getD (G .costs) v 0) ≤ 33553920) where
-    weights-light : sumTo g (λ c. getD weights c 0) ≤ 33553920
+  module _ (P : Proper G) (lr : r < 8) {rows′ : List ℕ} (M : RowsRoom G rows′ froms tos widths sizes orders) (light : sumTo n (λ v. getD (G .costs) v 0) ≤ mostCost) where
+    weights-light : sumTo g (λ c. getD weights c 0) ≤ mostCost
     weights-light = omega (arith, sumTo-ext g (λ c. getD weights c 0) (partCost (G .costs) row) (λ c _. C .costs c), costs-total G row g (R .row-of))
 
     pub hands-on : HandsOn n m r g froms tos widths sizes orders weights
@@ -134,9 +140,9 @@ module _ {G : Graph} {rows : List ℕ} {r g : ℕ} {froms tos widths sizes order
     pub maps-few : clusters next ≤ n
     maps-few = next-low
 
-    module _ (k : ℕ) (lr : r < 8) (room : 9 * n ≤ length rows) {rows′ map : List ℕ} (e : rows′ ≡ put rows (r * n + n) next) (N : Renamed row next map) (light : sumTo n (λ v. getD (G .costs) v 0) ≤ 33553920)
-        (M : Room G rows froms tos widths sizes orders)
-        {froms′ tos′ widths′ sizes′ orders′ weights′ : List ℕ} (H : HandedOn map n m r g (clusters next) froms tos widths sizes orders weights froms′ tos′ widths′ sizes′ orders′ weights′) where
+    module _ (k : ℕ) (lr : r < 8) (room : 9 * n ≤ length rows) {rows′ map : List ℕ} (e : rows′ ≡ put rows (r * n + n) next) (N : Renamed row next map) (light : sumTo n (λ v. getD (G .costs) v 0) ≤ mostCost)
+        (M : RowsRoom G rows froms tos widths sizes orders)
+        {froms′ tos′ widths′ sizes′ orders′ weights′ levels′ : List ℕ} (H : HandedOn map n m r g (clusters next) froms tos widths sizes orders weights froms′ tos′ widths′ sizes′ orders′ weights′ levels′) where
       long : length next ≡ n
       long = next-length ∙ R .row-of .whole
 
@@ -200,7 +206,10 @@ module _ {G : Graph} {rows : List ℕ} {r g : ℕ} {froms tos widths sizes order
             costs = rw row-new (next-costs (P .formed) (R .row-of) next-row N next-length (H .merged) (C .costs));
           }
 
-      pub steps-room : Room G rows′ froms′ tos′ widths′ sizes′ orders′
+      pub steps-levels : LevelsAt m (r + 1) (clusters next) froms′ tos′ sizes′ levels′
+      steps-levels = H .levels-are order-length
+
+      pub steps-room : RowsRoom G rows′ froms′ tos′ widths′ sizes′ orders′
       steps-room =
           record {
             row-room = rw (e, length-put rows (r * n + n) next (omega (arith, long, fits))) room;
@@ -221,7 +230,7 @@ pub joined-some : {G : Graph} {k bound r : ℕ} {rows rows′ : List ℕ} {x : �
 joined-some {G} {k} {bound} {r} {rows} {rows′} {x} D z =
     by (kept G k bound (rowAt G rows r) (roundOf G bound (rowAt G rows r))) (λ t. (rw t at (D .rows-are), rw t at (D .answer-is))) (λ t. let a : x ≡ 0 = rw t at (D .answer-is) in absurd (z a))
 
-pub joined-none : {G : Graph} {k bound r g : ℕ} {rows rows′ : List ℕ} {x : ℕ} → Proper G → Ready G (rowAt G rows r) g → JoinedRow G k bound r rows rows′ x → x ≡ 0 → rows′ ≡ rows
+pub joined-none : {G : Graph} {k bound r g : ℕ} {rows rows′ : List ℕ} {x : ℕ} → Proper G → RoundReady G (rowAt G rows r) g → JoinedRow G k bound r rows rows′ x → x ≡ 0 → rows′ ≡ rows
 joined-none {G} {k} {bound} {r} {g} {rows} {rows′} {x} P R D z =
     let next = nextRow (rowAt G rows r) (roundOf G bound (rowAt G rows r)) in
     let some = below-clusters next 0 (omega (arith, length-next (rowAt G rows r) (mateOf (roundOf G bound (rowAt G rows r))), R .row-of .whole, P .some)) in

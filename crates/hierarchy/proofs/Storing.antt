@@ -1,28 +1,26 @@
 -- What is carried of the rows: entries that stay, and those of one row more.
 use Prim.Native.Nat.{ℕ, suc, _+_, _*_, _≤_, _<_}
-use mathlib.Core.Path.{_≡_, refl, sym, ap, _∙_}
-use mathlib.Core.Bool.{Bool}
+use mathlib.Core.Path.{_≡_, sym, ap, _∙_}
 use mathlib.Core.List.{List}
 use native.Mathlib.Nat.{suc-mul, mul-le-mul-right}
 use native.Mathlib.Omega.{arith}
-use lib.Dec.{eqb, ltb}
+use lib.Dec.{eqb}
 use lib.ListN.{length, getD, set, take, drop, List·getD-append}
 use lib.Seq.{length-take-le, getD-take, getD-drop, getD-set-same, getD-set-other, ext-getD}
-use borrow.Author.Tests.{ne-eqb, ltb-true, ltb-false}
-use Rattle.folds.specs.Fold.{when, sumTo, over, put, part}
-use Rattle.folds.proofs.Cases.{by, either, eq-or-ne, when-le}
+use borrow.Author.Tests.{ne-eqb}
+use Rattle.folds.specs.Fold.{when, sumTo, put, part, mostCost}
+use Rattle.folds.proofs.Cases.{either, eq-or-ne, when-le}
 use Rattle.folds.proofs.Sums.{sumTo-ext, sumTo-mono, sumTo-none, sumTo-only, sumTo-swap, sumTo-le}
-use Rattle.folds.proofs.Lists.{listed, length-listTo, getD-listTo}
-use Rattle.folds.proofs.Slices.{length-part, length-put, take-over, length-over}
+use Rattle.folds.proofs.Lists.{listed}
+use Rattle.folds.proofs.Slices.{length-part, length-put}
 use Rattle.folds.proofs.Parts.{part-put}
-use Rattle.graph.specs.Graph.{Graph, vertices, edges, identity, arcs, seen, partCost, costIn, through, Formed, RowOf}
+use Rattle.graph.specs.Graph.{Graph, vertices, partCost, costIn, through, Formed, RowOf}
 use Rattle.graph.specs.Rows.{clusters}
-use Rattle.graph.specs.Rung.{rungOf, rungCost}
+use Rattle.graph.specs.RowGraph.{rowGraph, graphCost}
 use Rattle.graph.specs.Coarse.{Coarse, Stored}
 use Rattle.graph.proofs.Rungs.{rung-cost}
-use Rattle.graph.proofs.Edges.{through-at, length-through}
-use Rattle.contraction.specs.Next.{Renamed}
-use Rattle.matching.specs.Held.{Weights}
+use Rattle.contraction.specs.Contracts.{Renamed}
+use Rattle.matching.specs.Contracts.{ClusterCosts}
 use Rattle.row_lists.specs.Carry.{Merged}
 
 -- an entry of a part, and one that a part written further on leaves alone
@@ -106,7 +104,7 @@ costs-total G row g R =
     sumTo-swap g (vertices G) (λ c v. when (eqb (getD row v 0) c) (getD (G .costs) v 0))
     ∙ sumTo-ext (vertices G) _ _ (λ v l. sumTo-only g (getD row v 0) (λ c. getD (G .costs) v 0) (R .below v l))
 
-pub costs-light : (G : Graph) → vertices G ≤ 512 → ((v : ℕ) → getD (G .costs) v 0 ≤ 65535) → sumTo (vertices G) (λ v. getD (G .costs) v 0) ≤ 33553920
+pub costs-light : (G : Graph) → vertices G ≤ 512 → ((v : ℕ) → getD (G .costs) v 0 ≤ 65535) → sumTo (vertices G) (λ v. getD (G .costs) v 0) ≤ mostCost
 costs-light G l h = omega (arith, sumTo-le (vertices G) 65535 (λ v. getD (G .costs) v 0) h)
 
 cost-le : (G : Graph) (row : List ℕ) (c : ℕ) → partCost (G .costs) row c ≤ sumTo (vertices G) (λ v. getD (G .costs) v 0)
@@ -125,14 +123,14 @@ renamed-through row next map e h = sym (listed next (length row) (λ v. getD map
 module _ {G : Graph} {row next map weights weights′ : List ℕ} {g h : ℕ} (F : Formed G) (R : RowOf G row g) (R′ : RowOf G next h) (N : Renamed row next map) (e : length next ≡ length row)
     (M : Merged map weights g weights′) (costs : (c : ℕ) → getD weights c 0 ≡ partCost (G .costs) row c) where
   pub next-costs : (d : ℕ) → getD weights′ d 0 ≡ partCost (G .costs) next d
-  unfolding rungCost rungOf
+  unfolding graphCost rowGraph
   next-costs d =
       M .is d
       ∙ sumTo-ext g _ _ (λ c _. ap (when (eqb (getD map c 0) d)) (costs c))
       ∙ rung-cost G row map g F R d
       ∙ ap (λ (l : List ℕ). partCost (G .costs) l d) (renamed-through row next map e (N .is))
 
-  pub next-weights : sumTo (vertices G) (λ v. getD (G .costs) v 0) ≤ 33553920 → Weights h weights′
+  pub next-weights : sumTo (vertices G) (λ v. getD (G .costs) v 0) ≤ mostCost → ClusterCosts h weights′
   next-weights l =
       record {
         tall = M .tall;

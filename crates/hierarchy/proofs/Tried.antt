@@ -16,7 +16,7 @@ use Rattle.contraction.specs.Rounds.{rowAfter, AllKeep}
 use Rattle.contraction.proofs.Rounds.{Sound, next-sound}
 use Rattle.matching.specs.Choice.{roundOf}
 use Rattle.matching.proofs.Choices.{round-keeps}
-use Rattle.hierarchy.specs.Climb.{large, poor, kept, above}
+use Rattle.hierarchy.specs.Rounds.{large, poor, kept, above}
 
 shift : (a b : ℕ) → ltb (suc a) (suc b) ≡ ltb a b
 shift a b = by (ltb a b) (λ t. lt-ltb (suc a) (suc b) (omega (arith, ltb-true a b t)) ∙ sym t) (λ t. le-ltb (suc a) (suc b) (omega (arith, ltb-false a b t)) ∙ sym t)

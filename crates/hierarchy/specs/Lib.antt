@@ -1,3 +1,3 @@
-pub mod Climb
+pub mod Rounds
 pub mod Claim
-pub mod Built
+pub mod Contracts

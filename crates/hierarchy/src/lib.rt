@@ -3,13 +3,15 @@ ghost use mathlib.Core.Path.{_≡_};
 ghost use Prim.Native.Nat.{_+_, _*_, _<_, _≤_};
 ghost use lib.ListN.{length, take};
 ghost use Rattle.contraction.proofs.Rounds.{Sound};
+ghost use Rattle.folds.specs.Fold.{over, zeros};
 ghost use Rattle.graph.specs.Graph.{graphOf, identity, arcs, joining};
 ghost use Rattle.graph.specs.Links.{Linked, leave};
 ghost use Rattle.graph.specs.Coarse.{LinkedAt};
 ghost use Rattle.topology.specs.Order.{orderOf};
-ghost use Rattle.matching.specs.Held.{Ready};
+ghost use Rattle.topology.specs.Level.{levelsOf};
+ghost use Rattle.matching.specs.Contracts.{RoundReady};
 ghost use Rattle.row_lists.specs.Carry.{Maps};
-ghost use Rattle.hierarchy.specs.Built.{Carries, rowAt, JoinsRow, Carried, Carrying, Room, Steps, HandsOn, HandedOn, Buildable, Built};
+ghost use Rattle.hierarchy.specs.Contracts.{Carries, rowAt, JoinsRow, Carried, Carrying, LevelsAt, RowsRoom, Steps, HandsOn, HandedOn, Buildable, Built};
 
 // The front of an array into a row.
 fn copy_row(src: &[u16; 512], row: &mut [u16])
@@ -50,14 +52,15 @@ fn join_row(
     head: &[u16; 513],
     next: &[u16; 1024],
     order: &[u16],
+    levels: &[u16; 512],
     map: &mut [u16; 512],
     rows: &mut [u16],
     r: usize,
     g: usize,
 ) -> usize
-    requires { ⌜ Ready (graphOf (now costs) (now starts) (now ends) (now widths)) (rowAt (graphOf (now costs) (now starts) (now ends) (now widths)) (now rows) r) g ⌝ }
+    requires { ⌜ RoundReady (graphOf (now costs) (now starts) (now ends) (now widths)) (rowAt (graphOf (now costs) (now starts) (now ends) (now widths)) (now rows) r) g ⌝ }
     requires { ⌜ Carries (graphOf (now costs) (now starts) (now ends) (now widths)) (rowAt (graphOf (now costs) (now starts) (now ends) (now widths)) (now rows) r) g (now weights) (now from) (now to) (now width) (now order) ⌝ }
-    requires { ⌜ (r < 8) × (k ≤ 16) × Linked (leave (joining (now from) (now to))) (length (now from)) (now head) (now next) ⌝ }
+    requires { ⌜ (r < 8) × (k ≤ 16) × Linked (leave (joining (now from) (now to))) (length (now from)) (now head) (now next) × (now levels ≡ over (levelsOf (joining (now from) (now to)) g) (zeros 512)) ⌝ }
     requires { ⌜ 9 * length (now costs) ≤ length (now rows) ⌝ }
     ensures { λ x. ⌜ JoinsRow (graphOf (now (costs .entry)) (now (starts .entry)) (now (ends .entry)) (now (widths .entry))) k bound r (now (rows .entry)) (now (rows .exit)) (now (map .exit)) x ⌝ }
 {
@@ -77,6 +80,7 @@ fn join_row(
         head,
         next,
         order,
+        levels,
         g,
         bound,
         &mut mates,
@@ -90,7 +94,7 @@ fn join_row(
     h
 }
 
-// The lists, the costs, the order and the links of row r + 1 after those of row r: map gives each of the g clusters its new number, one of h.
+// The lists, the costs, the order, the links and the levels of row r + 1 after those of row r: map gives each of the g clusters its new number, one of h.
 fn hand_on(
     map: &[u16; 512],
     n: usize,
@@ -106,10 +110,11 @@ fn hand_on(
     weights: &mut [u32; 512],
     head: &mut [u16; 513],
     next: &mut [u16; 1024],
+    levels: &mut [u16; 512],
 )
     requires { ⌜ Maps (now map) g h × (h ≤ n) × (length (now next) ≡ 1024) ⌝ }
     requires { ⌜ HandsOn n m r g (now froms) (now tos) (now wides) (now sizes) (now orders) (now weights) ⌝ }
-    ensures { λ _. ⌜ HandedOn (now (map .entry)) n m r g h (now (froms .entry)) (now (tos .entry)) (now (wides .entry)) (now (sizes .entry)) (now (orders .entry)) (now (weights .entry)) (now (froms .exit)) (now (tos .exit)) (now (wides .exit)) (now (sizes .exit)) (now (orders .exit)) (now (weights .exit)) ⌝ }
+    ensures { λ _. ⌜ HandedOn (now (map .entry)) n m r g h (now (froms .entry)) (now (tos .entry)) (now (wides .entry)) (now (sizes .entry)) (now (orders .entry)) (now (weights .entry)) (now (froms .exit)) (now (tos .exit)) (now (wides .exit)) (now (sizes .exit)) (now (orders .exit)) (now (weights .exit)) (now (levels .exit)) ⌝ }
     ensures { λ _. ⌜ LinkedAt m (r + 1) (now (froms .exit)) (now (tos .exit)) (now (sizes .exit)) (now (head .exit)) (now (next .exit)) ⌝ }
 {
     let size = folds::wide(sizes[r]);
@@ -123,7 +128,7 @@ fn hand_on(
     let from = &froms[b..e];
     let to = &tos[b..e];
     graph::link_leaving(from, to, head, next);
-    topology::order_by(from, to, head, next, h, &mut orders[c..c + n]);
+    ordering::order_by(from, to, head, next, h, &mut orders[c..c + n], levels);
 }
 
 // The round on row r, by what is carried of it.
@@ -143,14 +148,15 @@ fn join_at(
     weights: &[u32; 512],
     head: &[u16; 513],
     next: &[u16; 1024],
+    levels: &[u16; 512],
     map: &mut [u16; 512],
     r: usize,
     g: usize,
 ) -> usize
-    requires { ⌜ Ready (graphOf (now costs) (now starts) (now ends) (now widths)) (rowAt (graphOf (now costs) (now starts) (now ends) (now widths)) (now rows) r) g × Sound (graphOf (now costs) (now starts) (now ends) (now widths)) (rowAt (graphOf (now costs) (now starts) (now ends) (now widths)) (now rows) r) ⌝ }
+    requires { ⌜ RoundReady (graphOf (now costs) (now starts) (now ends) (now widths)) (rowAt (graphOf (now costs) (now starts) (now ends) (now widths)) (now rows) r) g × Sound (graphOf (now costs) (now starts) (now ends) (now widths)) (rowAt (graphOf (now costs) (now starts) (now ends) (now widths)) (now rows) r) ⌝ }
     requires { ⌜ Carrying (graphOf (now costs) (now starts) (now ends) (now widths)) (now rows) r g (now froms) (now tos) (now wides) (now sizes) (now orders) (now weights) ⌝ }
-    requires { ⌜ Room (graphOf (now costs) (now starts) (now ends) (now widths)) (now rows) (now froms) (now tos) (now wides) (now sizes) (now orders) ⌝ }
-    requires { ⌜ (r < 8) × (k ≤ 16) × (g ≤ length (now costs)) × LinkedAt (length (now starts)) r (now froms) (now tos) (now sizes) (now head) (now next) ⌝ }
+    requires { ⌜ RowsRoom (graphOf (now costs) (now starts) (now ends) (now widths)) (now rows) (now froms) (now tos) (now wides) (now sizes) (now orders) ⌝ }
+    requires { ⌜ (r < 8) × (k ≤ 16) × (g ≤ length (now costs)) × LinkedAt (length (now starts)) r (now froms) (now tos) (now sizes) (now head) (now next) × LevelsAt (length (now starts)) r g (now froms) (now tos) (now sizes) (now levels) ⌝ }
     ensures { λ x. ⌜ JoinsRow (graphOf (now (costs .entry)) (now (starts .entry)) (now (ends .entry)) (now (widths .entry))) k bound r (now (rows .entry)) (now (rows .exit)) (now (map .exit)) x ⌝ }
 {
     let n = costs.len();
@@ -173,6 +179,7 @@ fn join_at(
         head,
         next,
         &orders[a..b],
+        levels,
         map,
         rows,
         r,
@@ -198,15 +205,16 @@ fn step(
     weights: &mut [u32; 512],
     head: &mut [u16; 513],
     next: &mut [u16; 1024],
+    levels: &mut [u16; 512],
     r: usize,
     g: usize,
 ) -> usize
-    requires { ⌜ Ready (graphOf (now costs) (now starts) (now ends) (now widths)) (rowAt (graphOf (now costs) (now starts) (now ends) (now widths)) (now rows) r) g × Sound (graphOf (now costs) (now starts) (now ends) (now widths)) (rowAt (graphOf (now costs) (now starts) (now ends) (now widths)) (now rows) r) ⌝ }
+    requires { ⌜ RoundReady (graphOf (now costs) (now starts) (now ends) (now widths)) (rowAt (graphOf (now costs) (now starts) (now ends) (now widths)) (now rows) r) g × Sound (graphOf (now costs) (now starts) (now ends) (now widths)) (rowAt (graphOf (now costs) (now starts) (now ends) (now widths)) (now rows) r) ⌝ }
     requires { ⌜ Carrying (graphOf (now costs) (now starts) (now ends) (now widths)) (now rows) r g (now froms) (now tos) (now wides) (now sizes) (now orders) (now weights) ⌝ }
-    requires { ⌜ Room (graphOf (now costs) (now starts) (now ends) (now widths)) (now rows) (now froms) (now tos) (now wides) (now sizes) (now orders) ⌝ }
-    requires { ⌜ (r < 8) × (k ≤ 16) × (g ≤ length (now costs)) × LinkedAt (length (now starts)) r (now froms) (now tos) (now sizes) (now head) (now next) ⌝ }
-    ensures { λ x. ⌜ Steps (graphOf (now (costs .entry)) (now (starts .entry)) (now (ends .entry)) (now (widths .entry))) k bound r (now (rows .entry)) (now (rows .exit)) (now (froms .exit)) (now (tos .exit)) (now (wides .exit)) (now (sizes .exit)) (now (orders .exit)) (now (weights .exit)) (now (head .exit)) (now (next .exit)) x ⌝ }
-    ensures { λ _. ⌜ Room (graphOf (now (costs .entry)) (now (starts .entry)) (now (ends .entry)) (now (widths .entry))) (now (rows .exit)) (now (froms .exit)) (now (tos .exit)) (now (wides .exit)) (now (sizes .exit)) (now (orders .exit)) ⌝ }
+    requires { ⌜ RowsRoom (graphOf (now costs) (now starts) (now ends) (now widths)) (now rows) (now froms) (now tos) (now wides) (now sizes) (now orders) ⌝ }
+    requires { ⌜ (r < 8) × (k ≤ 16) × (g ≤ length (now costs)) × LinkedAt (length (now starts)) r (now froms) (now tos) (now sizes) (now head) (now next) × LevelsAt (length (now starts)) r g (now froms) (now tos) (now sizes) (now levels) ⌝ }
+    ensures { λ x. ⌜ Steps (graphOf (now (costs .entry)) (now (starts .entry)) (now (ends .entry)) (now (widths .entry))) k bound r (now (rows .entry)) (now (rows .exit)) (now (froms .exit)) (now (tos .exit)) (now (wides .exit)) (now (sizes .exit)) (now (orders .exit)) (now (weights .exit)) (now (head .exit)) (now (next .exit)) (now (levels .exit)) x ⌝ }
+    ensures { λ _. ⌜ RowsRoom (graphOf (now (costs .entry)) (now (starts .entry)) (now (ends .entry)) (now (widths .entry))) (now (rows .exit)) (now (froms .exit)) (now (tos .exit)) (now (wides .exit)) (now (sizes .exit)) (now (orders .exit)) ⌝ }
 {
     let mut map = [0; 512];
     let h = join_at(
@@ -225,6 +233,7 @@ fn step(
         weights,
         head,
         next,
+        levels,
         &mut map,
         r,
         g,
@@ -247,6 +256,7 @@ fn step(
         weights,
         head,
         next,
+        levels,
     );
     h
 }
@@ -267,12 +277,13 @@ fn join_rows(
     orders: &mut [u16],
     head: &mut [u16; 513],
     next: &mut [u16; 1024],
+    levels: &mut [u16; 512],
 ) -> usize
     requires { ⌜ Buildable (graphOf (now costs) (now starts) (now ends) (now widths)) k ⌝ }
-    requires { ⌜ Room (graphOf (now costs) (now starts) (now ends) (now widths)) (now rows) (now froms) (now tos) (now wides) (now sizes) (now orders) ⌝ }
+    requires { ⌜ RowsRoom (graphOf (now costs) (now starts) (now ends) (now widths)) (now rows) (now froms) (now tos) (now wides) (now sizes) (now orders) ⌝ }
     requires { ⌜ rowAt (graphOf (now costs) (now starts) (now ends) (now widths)) (now rows) 0 ≡ identity (length (now costs)) ⌝ }
     requires { ⌜ Carried (graphOf (now costs) (now starts) (now ends) (now widths)) (rowAt (graphOf (now costs) (now starts) (now ends) (now widths)) (now rows)) 0 (now froms) (now tos) (now wides) (now sizes) (now orders) ⌝ }
-    requires { ⌜ LinkedAt (length (now starts)) 0 (now froms) (now tos) (now sizes) (now head) (now next) ⌝ }
+    requires { ⌜ LinkedAt (length (now starts)) 0 (now froms) (now tos) (now sizes) (now head) (now next) × LevelsAt (length (now starts)) 0 (length (now costs)) (now froms) (now tos) (now sizes) (now levels) ⌝ }
     ensures { λ x. ⌜ Built (graphOf (now (costs .entry)) (now (starts .entry)) (now (ends .entry)) (now (widths .entry))) k bound (now (rows .entry)) (now (rows .exit)) x ⌝ }
     ensures { λ x. ⌜ Carried (graphOf (now (costs .entry)) (now (starts .entry)) (now (ends .entry)) (now (widths .entry))) (rowAt (graphOf (now (costs .entry)) (now (starts .entry)) (now (ends .entry)) (now (widths .entry))) (now (rows .exit))) x (now (froms .exit)) (now (tos .exit)) (now (wides .exit)) (now (sizes .exit)) (now (orders .exit)) ⌝ }
     ensures { λ x. ⌜ LinkedAt (length (now (starts .entry))) x (now (froms .exit)) (now (tos .exit)) (now (sizes .exit)) (now (head .exit)) (now (next .exit)) ⌝ }
@@ -298,6 +309,7 @@ fn join_rows(
             &mut weights,
             head,
             next,
+            levels,
             r,
             g,
         );
@@ -310,7 +322,7 @@ fn join_rows(
     r
 }
 
-// Builds the hierarchy, by the order of the vertices and the links of their edges: rows 0 to the rounds kept, whose number it answers, with the lists and
+// Builds the hierarchy, by the order of the vertices, their levels and the links of their edges: rows 0 to the rounds kept, whose number it answers, with the lists and
 // the order of each, and the links of the last. Entries past those rows are left alone.
 pub fn build(
     costs: &[u16],
@@ -320,6 +332,7 @@ pub fn build(
     k: usize,
     bound: u32,
     order: &[u16; 512],
+    levels: &mut [u16; 512],
     head: &mut [u16; 513],
     next: &mut [u16; 1024],
     rows: &mut [u16],
@@ -330,9 +343,10 @@ pub fn build(
     orders: &mut [u16],
 ) -> usize
     requires { ⌜ Buildable (graphOf (now costs) (now starts) (now ends) (now widths)) k ⌝ }
-    requires { ⌜ Room (graphOf (now costs) (now starts) (now ends) (now widths)) (now rows) (now froms) (now tos) (now wides) (now sizes) (now orders) ⌝ }
+    requires { ⌜ RowsRoom (graphOf (now costs) (now starts) (now ends) (now widths)) (now rows) (now froms) (now tos) (now wides) (now sizes) (now orders) ⌝ }
     requires { ⌜ take (length (now costs)) (now order) ≡ orderOf (arcs (identity (length (now costs))) (now starts) (now ends)) (length (now costs)) ⌝ }
     requires { ⌜ (length (now order) ≡ 512) × Linked (leave (joining (now starts) (now ends))) (length (now starts)) (now head) (now next) ⌝ }
+    requires { ⌜ now levels ≡ over (levelsOf (arcs (identity (length (now costs))) (now starts) (now ends)) (length (now costs))) (zeros 512) ⌝ }
     ensures { λ x. ⌜ Built (graphOf (now (costs .entry)) (now (starts .entry)) (now (ends .entry)) (now (widths .entry))) k bound (now (rows .entry)) (now (rows .exit)) x ⌝ }
     ensures { λ x. ⌜ Carried (graphOf (now (costs .entry)) (now (starts .entry)) (now (ends .entry)) (now (widths .entry))) (rowAt (graphOf (now (costs .entry)) (now (starts .entry)) (now (ends .entry)) (now (widths .entry))) (now (rows .exit))) x (now (froms .exit)) (now (tos .exit)) (now (wides .exit)) (now (sizes .exit)) (now (orders .exit)) ⌝ }
     ensures { λ x. ⌜ LinkedAt (length (now (starts .entry))) x (now (froms .exit)) (now (tos .exit)) (now (sizes .exit)) (now (head .exit)) (now (next .exit)) ⌝ }
@@ -356,5 +370,6 @@ pub fn build(
         orders,
         head,
         next,
+        levels,
     )
 }

@@ -5,7 +5,6 @@ use mathlib.Core.List.{List}
 use native.Mathlib.Omega.{arith}
 use lib.ListN.{length, getD, set, length-set, take, length-take}
 use lib.Seq.{getD-set-same, getD-set-other, getD-take}
-use Rattle.folds.specs.Fold.{Read}
 use Rattle.folds.proofs.Cases.{either, eq-or-ne}
 use Rattle.folds.proofs.Lists.{listTo-ext}
 use Rattle.graph.specs.Walk.{Acyclic}
@@ -13,7 +12,7 @@ use Rattle.graph.specs.Graph.{Arcs, Edge, Inside, through}
 use Rattle.topology.specs.Order.{orderOf, placeIn}
 use Rattle.topology.proofs.Orders.{order-all, order-below, order-once, place-at}
 use Rattle.initial.specs.Initial.{placesIn}
-use Rattle.initial.specs.Positions.{Spots, Once, Inverse}
+use Rattle.initial.specs.Positions.{Once, Inverse}
 
 pub inverse-none : {order at : List ℕ} → length at ≡ 512 → Inverse 0 order at
 inverse-none t = record { tall = t; is = λ i l. absurd (omega arith) }
@@ -27,10 +26,6 @@ inverse-turn {g} {i} {a} {order} {at} O l e I =
           (λ q. rw (q, ← e) (getD-set-same at a i 0 (omega (arith, I .tall, O .low i l))))
           (λ n. getD-set-other at a (getD order k 0) i 0 (λ q. n (O .once k i (omega arith) l (q ∙ e))) ∙ I .is k (omega arith));
     }
-
--- what a read of a row gives
-pub spot-low : {n v b p : ℕ} {places : List ℕ} → Spots n places → v < n → Read places v b p → p < 512
-spot-low S l P = rw (P .is) (S .low _ l)
 
 -- the order of a row's clusters, and its inverse
 module _ (A : Arcs) (g : ℕ) (order : List ℕ) (inside : Inside A g) (small : g ≤ 512) (acyclic : Acyclic (Edge A)) (q : take g order ≡ orderOf A g) where

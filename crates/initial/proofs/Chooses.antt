@@ -4,34 +4,34 @@ use mathlib.Core.Path.{_≡_, refl, ap, _∙_}
 use mathlib.Core.List.{List}
 use native.Mathlib.Numerals.{add-one}
 use native.Mathlib.Omega.{arith}
-use lib.ListN.{length, getD, take, drop}
-use Rattle.folds.specs.Fold.{over, part}
+use lib.ListN.{length, getD}
+use Rattle.folds.specs.Fold.{over}
 use Rattle.folds.proofs.Lists.{row-in}
 use Rattle.graph.specs.Graph.{Graph, vertices, Proper}
 use Rattle.graph.specs.Rows.{Hierarchy}
 use Rattle.graph.specs.Coarse.{Stored, LinkedAt}
 use Rattle.graph.proofs.Rows.{few-clusters}
 use Rattle.graph.proofs.Coarse.{rows-held, lower-stored, coarse-ended}
-use Rattle.division.specs.Division.{Pick, none, some}
+use Rattle.division_table.specs.Division.{Pick, none, some}
 use Rattle.initial.specs.Initial.{Chosen, found, uncut, orLower, highest, initialOf, chosenOf}
-use Rattle.initial.specs.Answers.{foundOf, tableAfter, Answers, initialAs, chosenAfter, Chooses, Lent, Ordered, Linkable, LinkedBelow, LinkedThere}
+use Rattle.initial.specs.Contracts.{foundOf, tableWith, DividedAs, initialAs, chosenAfter, Chooses, Borrowed, OrdersStored, Linkable, LinkedBelow, LinkedThere}
 use Rattle.initial.specs.declared.Initial.{Initial}
 use Rattle.initial.specs.declared.Initial.the-variants.{At, Uncut}
 use Rattle.initial.specs.declared.Found.{Found}
 use Rattle.initial.specs.declared.Found.the-variants.{Cut, Nothing}
 
 -- what one row answers
-pub answers-cut : {p : Pick (List ℕ)} {old new : List ℕ} {r : Found} {c : ℕ} → Answers p old new r → r ≡ Cut c → (t : List ℕ) × (p ≡ some c t) × (new ≡ over t old)
+pub answers-cut : {p : Pick (List ℕ)} {old new : List ℕ} {r : Found} {c : ℕ} → DividedAs p old new r → r ≡ Cut c → (t : List ℕ) × (p ≡ some c t) × (new ≡ over t old)
 answers-cut {p} {old} {new} {r} {c} A e = go p (A .is) (A .table)
   where
-    go : (p : Pick (List ℕ)) → r ≡ foundOf p → new ≡ tableAfter p old → (t : List ℕ) × (p ≡ some c t) × (new ≡ over t old)
+    go : (p : Pick (List ℕ)) → r ≡ foundOf p → new ≡ tableWith p old → (t : List ℕ) × (p ≡ some c t) × (new ≡ over t old)
     go none q h = let z : _≡_ {A = ℕ} 0 1 = cc in absurd (omega arith)
     go (some d t) q h = (t, cc, h)
 
-pub answers-nothing : {p : Pick (List ℕ)} {old new : List ℕ} {r : Found} → Answers p old new r → r ≡ Nothing → (p ≡ none) × (new ≡ old)
+pub answers-nothing : {p : Pick (List ℕ)} {old new : List ℕ} {r : Found} → DividedAs p old new r → r ≡ Nothing → (p ≡ none) × (new ≡ old)
 answers-nothing {p} {old} {new} {r} A e = go p (A .is) (A .table)
   where
-    go : (p : Pick (List ℕ)) → r ≡ foundOf p → new ≡ tableAfter p old → (p ≡ none) × (new ≡ old)
+    go : (p : Pick (List ℕ)) → r ≡ foundOf p → new ≡ tableWith p old → (p ≡ none) × (new ≡ old)
     go none q h = (refl, h)
     go (some d t) q h = let z : _≡_ {A = ℕ} 0 1 = cc in absurd (omega arith)
 
@@ -41,13 +41,13 @@ module _ (f : ℕ → Pick (List ℕ)) (r : ℕ) (l : 0 < r) where
   unfolding highest
   next-row = let q : r ≡ suc (r - 1) = omega arith in ap (highest f) q
 
-  pub row-hit : {x : Chosen} {old old′ new : List ℕ} {a : Found} {c : ℕ} → x ≡ highest f r → old′ ≡ old → Answers (f (r - 1)) old′ new a → a ≡ Cut c → Chooses x old new (At (r - 1) c)
+  pub row-hit : {x : Chosen} {old old′ new : List ℕ} {a : Found} {c : ℕ} → x ≡ highest f r → old′ ≡ old → DividedAs (f (r - 1)) old′ new a → a ≡ Cut c → Chooses x old new (At (r - 1) c)
   row-hit {x} {old} {old′} {new} {a} {c} e o A h =
       let (t, q, w) = answers-cut A h in
       let z : x ≡ found (r - 1) t c = e ∙ next-row ∙ ap (λ p. orLower (r - 1) p (highest f (r - 1))) q in
       rw z (record { is = refl; table = w ∙ ap (over t) o })
 
-  pub row-miss : {x : Chosen} {old old′ new : List ℕ} {a : Found} → x ≡ highest f r → old′ ≡ old → Answers (f (r - 1)) old′ new a → a ≡ Nothing → (new ≡ old) × (x ≡ highest f (r - 1))
+  pub row-miss : {x : Chosen} {old old′ new : List ℕ} {a : Found} → x ≡ highest f r → old′ ≡ old → DividedAs (f (r - 1)) old′ new a → a ≡ Nothing → (new ≡ old) × (x ≡ highest f (r - 1))
   row-miss {x} {old} {old′} {new} {a} e o A h =
       let (q, w) = answers-nothing A h in (w ∙ o, e ∙ next-row ∙ ap (λ p. orLower (r - 1) p (highest f (r - 1))) q)
 
@@ -59,21 +59,16 @@ pub rows-end : (f : ℕ → Pick (List ℕ)) (r : ℕ) {x : Chosen} {old new : L
 unfolding highest
 rows-end f r {x} z e o = let q : x ≡ uncut = e ∙ ap (highest f) z in rw q (record { is = refl; table = o })
 
--- a part as the code takes it
-pub row-part : (l : List ℕ) (a n : ℕ) → take (a + n - a) (drop a l) ≡ part l a n
-unfolding part
-row-part l a n = let q : a + n - a ≡ n = omega arith in rw q
-
 -- what is lent up to a lower row, and the row itself in it
-pub lower-lent : {n k top : ℕ} {rows sizes table : List ℕ} (r : ℕ) → r ≤ top → Lent n k top rows sizes table → Lent n k r rows sizes table
+pub lower-lent : {n k top : ℕ} {rows sizes table : List ℕ} (r : ℕ) → r ≤ top → Borrowed n k top rows sizes table → Borrowed n k r rows sizes table
 lower-lent {n} {top = top} r l L = record { parts = L .parts; few = omega (arith, L .few); nine = L .nine; long = rows-held r top n _ l (L .long); room = L .room }
 
-pub lower-ordered : {G : Graph} {rows : ℕ → List ℕ} {top : ℕ} {orders : List ℕ} (r : ℕ) → r ≤ top → Ordered G rows top orders → Ordered G rows r orders
+pub lower-ordered : {G : Graph} {rows : ℕ → List ℕ} {top : ℕ} {orders : List ℕ} (r : ℕ) → r ≤ top → OrdersStored G rows top orders → OrdersStored G rows r orders
 lower-ordered {G} {top = top} r l O = record { long = rows-held r top (vertices G) _ l (O .long); is = λ q h. O .is q (omega arith) }
 
 -- the lists of its rows, which can be linked
 pub stored-linkable : {G : Graph} {rows : ℕ → List ℕ} {top m n k : ℕ} {froms tos widths sizes lent table : List ℕ} (r : ℕ) → r ≤ top → Proper G → Hierarchy G rows top
-    → Stored G rows top m froms tos widths sizes → Lent n k top lent sizes table → Linkable m r froms tos sizes
+    → Stored G rows top m froms tos widths sizes → Borrowed n k top lent sizes table → Linkable m r froms tos sizes
 stored-linkable r l P H S L =
     let T = lower-stored r l S in
     record {

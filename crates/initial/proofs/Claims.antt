@@ -10,16 +10,16 @@ use Rattle.graph.specs.Graph.{Graph, cutOf, Formed, Proper}
 use Rattle.graph.specs.Rows.{clusters, Hierarchy}
 use Rattle.graph.specs.Table.{Good}
 use Rattle.graph.proofs.Rows.{hierarchy-layer}
-use Rattle.division.specs.Division.{fits, divisions, Pick, none, some, least}
-use Rattle.division.proofs.Picks.{some-none}
-use Rattle.division.proofs.Wins.{Beats, least-holds, least-beats}
+use Rattle.division_table.specs.Division.{fits, divisions, Pick, none, some, least}
+use Rattle.division_table.proofs.Picks.{some-none}
+use Rattle.division_table.proofs.Wins.{Beats, least-holds, least-beats}
 use Rattle.initial.specs.Initial.{placesOf, roomy, Divides, givenBy, tabled, leastParts, initialOf, Chosen, found, uncut, orLower, highest, chosenOf, LeastCut}
-use Rattle.initial.specs.Positions.{Placed, leavingOf}
+use Rattle.initial.specs.Positions.{PositionsOf, leavingOf}
 use Rattle.initial.proofs.Layers.{layer-few, layer-placed}
 use Rattle.initial.proofs.Places.{place-shared, parts-cut, parts-good}
 
 -- one row: what its pick says
-module _ (G : Graph) (F : Formed G) (k bound : ℕ) (row : List ℕ) (P : Placed G (clusters row) (placesOf G row)) where
+module _ (G : Graph) (F : Formed G) (k bound : ℕ) (row : List ℕ) (P : PositionsOf G (clusters row) (placesOf G row)) where
   abbrev wanted : Pick (List ℕ)
   wanted = least (fits (clusters row) (roomy G bound (placesOf G row)) 0) (λ d. cutOf G (givenBy G row d)) (divisions (clusters row) k)
 
@@ -51,7 +51,7 @@ module _ (G : Graph) (F : Formed G) (k bound : ℕ) (row : List ℕ) (P : Placed
 
 module _ (G : Graph) (proper : Proper G) (k bound : ℕ) (rows : ℕ → List ℕ) (kept : ℕ) (H : Hierarchy G rows kept) where
   -- the positions of a kept row
-  row-placed : (r : ℕ) → r ≤ kept → Placed G (clusters (rows r)) (placesOf G (rows r))
+  row-placed : (r : ℕ) → r ≤ kept → PositionsOf G (clusters (rows r)) (placesOf G (rows r))
   row-placed r l = layer-placed proper (hierarchy-layer H r l)
 
   -- here and below, or only below

@@ -19,14 +19,14 @@ use Rattle.graph.proofs.Links.{linked-same, leave-apart}
 use Rattle.graph.proofs.Rows.{onto-few}
 use Rattle.graph.proofs.Edges.{row-inside, through-at, length-through}
 use Rattle.graph.specs.Totals.{Keyed}
-use Rattle.division.specs.Division.{none}
-use Rattle.division.specs.Table.{best}
-use Rattle.division.proofs.Best.{least-best}
-use Rattle.division.proofs.Fills.{too-many}
+use Rattle.division_table.specs.Division.{none}
+use Rattle.division_table.specs.Contracts.{best}
+use Rattle.division_table.proofs.Best.{least-best}
+use Rattle.division_table.proofs.Fills.{too-many}
 use Rattle.initial.specs.Initial.{placesOf, roomy, partsOf, tabled, leastParts, initialOf}
-use Rattle.initial.specs.Answers.{OrderOf}
+use Rattle.initial.specs.Contracts.{OrderOf}
 use Rattle.division_scan.specs.Scan.{Positioned, LinkedBy, leavingBy}
-use Rattle.initial.specs.Positions.{Placed, Spots, leavingOf, Once, Inverse}
+use Rattle.initial.specs.Positions.{PositionsOf, leavingOf, Once, Inverse}
 use Rattle.initial.proofs.Places.{placed, parts-cut, roomy-costs}
 use Rattle.initial.proofs.Arranges.{order-is-once, at-order, through-places}
 use Rattle.initial.proofs.Listed.{listed-edges, listed-leaving}
@@ -37,16 +37,11 @@ layer-few {G} {row} P L = omega (arith, P .few, onto-few (vertices G) (clusters 
 pub layer-some : {G : Graph} {row : List ℕ} → Proper G → Layer G row → 0 < clusters row
 layer-some P L = omega (arith, L .is-row .below 0 (P .some))
 
-pub layer-placed : {G : Graph} {row : List ℕ} → Proper G → Layer G row → Placed G (clusters row) (placesOf G row)
+pub layer-placed : {G : Graph} {row : List ℕ} → Proper G → Layer G row → PositionsOf G (clusters row) (placesOf G row)
 layer-placed {G} {row} P L = placed G row (P .formed) (L .is-row) (layer-few P L) (L .acyclic) (L .onto)
 
-pub layer-spots : {G : Graph} {row : List ℕ} → Proper G → Layer G row → Spots (length row) row
-layer-spots P L =
-    record {
-      whole = refl;
-      few = omega (arith, L .is-row .whole, P .few);
-      low = λ v h. omega (arith, layer-few P L, L .is-row .below v (omega (arith, L .is-row .whole)));
-    }
+pub layer-below : {G : Graph} {row : List ℕ} → Proper G → Layer G row → (length row ≤ 512) × ((v : ℕ) → v < length row → getD row v 0 < 512)
+layer-below P L = (omega (arith, L .is-row .whole, P .few), λ v h. omega (arith, layer-few P L, L .is-row .below v (omega (arith, L .is-row .whole))))
 
 pub layer-low : {G : Graph} {row : List ℕ} {g : ℕ} → Layer G row → g ≡ clusters row → (v : ℕ) → v < length row → getD row v 0 < g
 layer-low L e v h = omega (arith, L .is-row .below v (omega (arith, L .is-row .whole)))
@@ -104,7 +99,7 @@ module _ {G : Graph} {row order at places from to width head next : List ℕ} {g
   front-is : take (vertices G) places ≡ through row at
   front-is = ap (take (vertices G)) q ∙ take-over (through row at) l (vertices G) whole
 
-  front-placed : Placed G g (through row at)
+  front-placed : PositionsOf G g (through row at)
   front-placed = rw (is-places, e) (layer-placed P L)
 
   at-length : length (take g at) ≡ g

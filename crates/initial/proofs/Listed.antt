@@ -13,9 +13,9 @@ use Rattle.graph.specs.Graph.{Graph, vertices, edges, via, RowOf, Proper}
 use Rattle.graph.specs.Links.{Ends}
 use Rattle.graph.specs.Coarse.{Coarse}
 use Rattle.graph.proofs.Coarse.{coarse-sum, edge-listed}
-use Rattle.division.proofs.Intervals.{leaving}
+use Rattle.division_table.proofs.Intervals.{leaving}
 use Rattle.division_scan.specs.Scan.{Positioned, leavingBy}
-use Rattle.initial.specs.Positions.{Placed, leavingOf}
+use Rattle.initial.specs.Positions.{PositionsOf, leavingOf}
 
 -- whether an edge from cluster a to cluster b leaves the positions y to x - 1
 crosses : List ℕ → ℕ → ℕ → ℕ → ℕ → Bool
@@ -30,7 +30,7 @@ crosses-own at y x a =
 
 -- `at` has the position of each cluster, `places` that of each vertex's cluster
 module _ {G : Graph} {row places from to width : List ℕ} {g : ℕ} (at : List ℕ) (P : Proper G) (R : RowOf G row g) (onto : (c : ℕ) → c < g → (v : ℕ) × (v < vertices G) × (getD row v 0 ≡ c))
-    (S : Placed G g places) (C : Coarse G row g from to width) (small : g ≤ 512) (tall : length at ≡ g) (is : (v : ℕ) → v < vertices G → getD places v 0 ≡ getD at (getD row v 0) 0) where
+    (S : PositionsOf G g places) (C : Coarse G row g from to width) (small : g ≤ 512) (tall : length at ≡ g) (is : (v : ℕ) → v < vertices G → getD places v 0 ≡ getD at (getD row v 0) 0) where
   start-is : (j : ℕ) → j < edges G → via places (G .starts) j ≡ getD at (via row (G .starts) j) 0
   start-is j l = is _ (P .formed .start-in j l)
 

@@ -18,12 +18,12 @@ use Rattle.graph.proofs.Tables.{size-ext, place-is}
 use Rattle.graph.proofs.Edges.{arc-edge, row-inside}
 use Rattle.topology.specs.Order.{orderOf, placeIn}
 use Rattle.topology.proofs.Orders.{order-all, order-below, place-at, place-of, order-rises}
-use Rattle.division.specs.Division.{Rising, Feasible, intervalOf, between}
-use Rattle.division.proofs.Best.{outs}
-use Rattle.division.proofs.Intervals.{cut-outs, interval-mono, interval-below, Interval, interval-is}
+use Rattle.division_table.specs.Division.{Rising, Feasible, intervalOf, between}
+use Rattle.division_table.proofs.Best.{outs}
+use Rattle.division_table.proofs.Intervals.{cut-outs, interval-mono, interval-below, Interval, interval-is}
 use Rattle.initial.specs.Initial.{placesIn, placesOf, runSize, roomy, partsOf}
 use Rattle.division_scan.specs.Scan.{leavingBy}
-use Rattle.initial.specs.Positions.{Placed, leavingOf}
+use Rattle.initial.specs.Positions.{PositionsOf, leavingOf}
 
 module _ (G : Graph) (row : List ℕ) (F : Formed G) (R : RowOf G row (clusters row)) (small : clusters row ≤ 512) (acyclic : Acyclic (Edge (seen G row))) where
   inside : Inside (seen G row) (clusters row)
@@ -68,7 +68,7 @@ module _ (G : Graph) (row : List ℕ) (F : Formed G) (R : RowOf G row (clusters 
       let h = order-rises (seen G row) (clusters row) inside all (getD row s 0) (getD row t 0) (arc-edge (seen G row) j l n) in
       omega (arith, place-here s ls, place-here t lt))
 
-  pub placed : ((c : ℕ) → c < clusters row → (v : ℕ) × (v < vertices G) × (getD row v 0 ≡ c)) → Placed G (clusters row) (placesOf G row)
+  pub placed : ((c : ℕ) → c < clusters row → (v : ℕ) × (v < vertices G) × (getD row v 0 ≡ c)) → PositionsOf G (clusters row) (placesOf G row)
   placed onto = record { row = place-row; onto = place-onto onto; forward = place-forward }
 
 -- today the size of a run is the summed cost of what lies there, so that of a graph only the costs count
@@ -81,7 +81,7 @@ unfolding roomy runSize sizeOf
 roomy-costs G from to width bound places = refl
 
 -- the table that a division of positions gives
-module _ (G : Graph) (F : Formed G) (g : ℕ) (places : List ℕ) (P : Placed G g places) where
+module _ (G : Graph) (F : Formed G) (g : ℕ) (places : List ℕ) (P : PositionsOf G g places) where
   pub parts-whole : (d : List ℕ) → length (partsOf places d) ≡ vertices G
   unfolding partsOf
   parts-whole d = length-listTo _ _ ∙ P .row .whole

@@ -9,22 +9,22 @@ use Rattle.folds.specs.Fold.{over}
 use Rattle.folds.proofs.Slices.{take-over, length-over}
 use Rattle.graph.specs.Graph.{Graph, vertices, costIn}
 use Rattle.graph.specs.Totals.{Totals}
-use Rattle.division.specs.Division.{none, some, between}
-use Rattle.division.specs.Table.{best, noCut, span, within, Table, Blank, startsBy}
-use Rattle.division.specs.Fewest.{After}
-use Rattle.division.proofs.Best.{best-same}
-use Rattle.division.proofs.Cells.{read-some, read-none}
-use Rattle.division.proofs.Fills.{within-monotone, too-few}
-use Rattle.division.proofs.Spans.{span-between, between-small}
-use Rattle.division.proofs.Tables.{low-none, length-starts}
+use Rattle.division_table.specs.Division.{none, some, between}
+use Rattle.division_table.specs.Contracts.{best, noCut, span, within, Table, Blank, startsBy}
+use Rattle.division_table.specs.Fewest.{After}
+use Rattle.division_table.proofs.Best.{best-same}
+use Rattle.division_table.proofs.Cells.{read-some, read-none}
+use Rattle.division_table.proofs.Fills.{within-monotone, too-few}
+use Rattle.division_table.proofs.Spans.{span-between, between-small}
+use Rattle.division_table.proofs.Tables.{low-none, length-starts}
 use Rattle.initial.specs.Initial.{roomy}
-use Rattle.division_scan.specs.Scan.{Positioned, leavingBy, Costs, Tabled}
+use Rattle.division_scan.specs.Scan.{Positioned, leavingBy, Costs, CutsKnown}
 use Rattle.division_scan.proofs.Flows.{leaving-small}
 use Rattle.initial.proofs.Places.{run-cost}
 
 -- the table, read at position 0
 module _ {places starts ends widths cost : List ℕ} {bound g : ℕ} {away cuts : List ℕ} (P : Positioned places starts ends widths g) (n : ℕ) (ln : n < 16)
-    (some-place : 0 < g) (T : Tabled n places starts ends widths cost bound g 0 away cuts) where
+    (some-place : 0 < g) (T : CutsKnown n places starts ends widths cost bound g 0 away cuts) where
   pub solved-none : noCut ≤ getD cuts n 0 → best g (within cost bound) (leavingBy places starts ends widths) n 0 ≡ none
   solved-none h =
       read-none g (within cost bound) (leavingBy places starts ends widths) (leaving-small P) (within-monotone cost bound) cuts n (omega arith) (T .before) (T .counts) (T .done) n 0 (omega (arith, T .counts .first)) some-place (rw (zero-add n) h)

@@ -10,7 +10,7 @@ use Rattle.graph.specs.Graph.{Graph, Arcs, seen, cutOf}
 use Rattle.graph.specs.Rows.{clusters}
 use Rattle.graph.specs.Table.{sizeOf}
 use Rattle.topology.specs.Order.{orderOf, placeIn}
-use Rattle.division.specs.Division.{fits, Feasible, intervalOf, divisions, NotAfter, Pick, none, some, least}
+use Rattle.division_table.specs.Division.{fits, Feasible, intervalOf, divisions, NotAfter, Pick, none, some, least}
 
 -- the position of each vertex: the place of its cluster in the topological order (document 01: play order) of the row's clusters
 unfoldable pub placesIn : Arcs → ℕ → List ℕ → List ℕ

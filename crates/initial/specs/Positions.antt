@@ -7,16 +7,10 @@ use Rattle.graph.specs.Graph.{Graph, vertices, edges, via, RowOf}
 use Rattle.division_scan.specs.Scan.{leavingBy}
 
 -- positions: a row in which no position is empty and every edge goes forward
-pub record Placed (G : Graph) (g : ℕ) (places : List ℕ) : Type 0 where
+pub record PositionsOf (G : Graph) (g : ℕ) (places : List ℕ) : Type 0 where
   pub row : RowOf G places g
   pub onto : (p : ℕ) → p < g → (v : ℕ) × (v < vertices G) × (getD places v 0 ≡ p)
   pub forward : (j : ℕ) → j < edges G → via places (G .starts) j ≤ via places (G .ends) j
-
--- a position below 512 for each of n vertices
-pub record Spots (n : ℕ) (places : List ℕ) : Type 0 where
-  pub whole : length places ≡ n
-  pub few : n ≤ 512
-  pub low : (v : ℕ) → v < n → getD places v 0 < 512
 
 -- what leaves the interval of positions y to x - 1
 abbrev pub leavingOf : Graph → List ℕ → ℕ → ℕ → ℕ

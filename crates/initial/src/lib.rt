@@ -3,17 +3,17 @@ ghost use mathlib.Core.Path.{_≡_};
 ghost use Prim.Native.Nat.{_<_, _≤_};
 ghost use lib.ListN.{length, take};
 ghost use Rattle.folds.specs.Fold.{over};
-ghost use Rattle.graph.specs.Graph.{through, joining, graphOf, Proper};
+ghost use Rattle.graph.specs.Graph.{joining, graphOf, Proper};
 ghost use Rattle.graph.specs.Rows.{clusters, rowsIn, Layer, Hierarchy};
 ghost use Rattle.graph.specs.Coarse.{Coarse, Stored, LinkedAt};
 ghost use Rattle.graph.specs.Links.{Linked, leave};
 ghost use Rattle.graph.specs.Totals.{Keyed};
-ghost use Rattle.division.specs.Table.{best, within, Table, Blank};
-ghost use Rattle.division.specs.Fewest.{Before, After};
+ghost use Rattle.division_table.specs.Contracts.{best, within, Table, Blank};
+ghost use Rattle.division_table.specs.Fewest.{Before, After};
 ghost use Rattle.initial.specs.Initial.{roomy, partsOf, tabled, initialOf, chosenOf};
-ghost use Rattle.initial.specs.Answers.{Answers, Chooses, Lent, OrderOf, Ordered, Linkable, LinkedBelow, LinkedThere};
+ghost use Rattle.initial.specs.Contracts.{DividedAs, Chooses, Borrowed, OrderOf, OrdersStored, Linkable, LinkedBelow, LinkedThere};
 ghost use Rattle.division_scan.specs.Scan.{Positioned, LinkedBy, leavingBy, Costs};
-ghost use Rattle.initial.specs.Positions.{Spots, Once, Inverse};
+ghost use Rattle.initial.specs.Positions.{Once, Inverse};
 
 // The least cut, or there is no division.
 pub enum Found {
@@ -41,20 +41,6 @@ fn invert(order: &[u16], g: usize, at: &mut [u16; 512])
     }
 }
 
-// The entry of `at` for the cluster of each vertex, over the front of out.
-fn through(row: &[u16], at: &[u16; 512], out: &mut [u16; 512])
-    requires { ⌜ Spots (length (now row)) (now row) ⌝ }
-    requires { ⌜ (length (now at) ≡ 512) × (length (now out) ≡ 512) ⌝ }
-    ensures { λ _. ⌜ now (out .exit) ≡ over (through (now (row .entry)) (now (at .entry))) (now (out .entry)) ⌝ }
-{
-    let mut v: usize = 0;
-    while v < row.len() {
-        let a = folds::at16(row, v);
-        out[v] = at[a];
-        v += 1;
-    }
-}
-
 // The part of each vertex: the interval of its position.
 fn label(places: &[u16], first: &[u16; 16], n: usize, table: &mut [u16])
     requires { ⌜ (n ≤ 16) × (length (now first) ≡ 16) ⌝ }
@@ -63,7 +49,7 @@ fn label(places: &[u16], first: &[u16; 16], n: usize, table: &mut [u16])
 {
     let mut v: usize = 0;
     while v < places.len() {
-        let u = division::interval(first, n, folds::at16(places, v));
+        let u = division_table::interval(first, n, folds::at16(places, v));
         table[v] = u as u16;
         v += 1;
     }
@@ -97,7 +83,7 @@ fn search_in(
     requires { ⌜ Table g (now cut) ⌝ }
     requires { ⌜ Blank g (now cut) ⌝ }
     requires { ⌜ (0 < g) × (g ≤ 512) × (n < 16) × (length (now places) ≤ length (now table)) ⌝ }
-    ensures { λ r. ⌜ Answers (tabled (now (places .entry)) (best g (within (now (cost .entry)) bound) (leavingBy (now (at .entry)) (now (starts .entry)) (now (ends .entry)) (now (widths .entry))) n 0)) (now (table .entry)) (now (table .exit)) r ⌝ }
+    ensures { λ r. ⌜ DividedAs (tabled (now (places .entry)) (best g (within (now (cost .entry)) bound) (leavingBy (now (at .entry)) (now (starts .entry)) (now (ends .entry)) (now (widths .entry))) n 0)) (now (table .entry)) (now (table .exit)) r ⌝ }
 {
     let mut away = [0u32; 512];
     division_scan::tabulate(
@@ -163,7 +149,7 @@ fn search(
     requires { ⌜ Before g (within (now cost) bound) (now before) ⌝ }
     requires { ⌜ After g (within (now cost) bound) 0 (now after) ⌝ }
     requires { ⌜ (0 < g) × (g ≤ 512) × (n < 16) × (length (now places) ≤ length (now table)) ⌝ }
-    ensures { λ r. ⌜ Answers (tabled (now (places .entry)) (best g (within (now (cost .entry)) bound) (leavingBy (now (at .entry)) (now (starts .entry)) (now (ends .entry)) (now (widths .entry))) n 0)) (now (table .entry)) (now (table .exit)) r ⌝ }
+    ensures { λ r. ⌜ DividedAs (tabled (now (places .entry)) (best g (within (now (cost .entry)) bound) (leavingBy (now (at .entry)) (now (starts .entry)) (now (ends .entry)) (now (widths .entry))) n 0)) (now (table .entry)) (now (table .exit)) r ⌝ }
 {
     if g <= 64 {
         let mut cut = [1073741824u32; 1105];
@@ -228,17 +214,17 @@ fn solve(
     requires { ⌜ Positioned (now at) (now from) (now to) (now width) g ⌝ }
     requires { ⌜ LinkedBy (now order) (now at) (now from) (now head) (now next) ⌝ }
     requires { ⌜ (0 < g) × (g ≤ 512) × (n < 16) × (length (now places) ≤ length (now table)) ⌝ }
-    ensures { λ r. ⌜ Answers (tabled (now (places .entry)) (best g (roomy (graphOf (now (costs .entry)) (now (from .entry)) (now (to .entry)) (now (width .entry))) bound (now (places .entry))) (leavingBy (now (at .entry)) (now (from .entry)) (now (to .entry)) (now (width .entry))) n 0)) (now (table .entry)) (now (table .exit)) r ⌝ }
+    ensures { λ r. ⌜ DividedAs (tabled (now (places .entry)) (best g (roomy (graphOf (now (costs .entry)) (now (from .entry)) (now (to .entry)) (now (width .entry))) bound (now (places .entry))) (leavingBy (now (at .entry)) (now (from .entry)) (now (to .entry)) (now (width .entry))) n 0)) (now (table .entry)) (now (table .exit)) r ⌝ }
 {
     let mut cost = [0u32; 512];
     let mut before = [0u16; 512];
     let mut after = [0u16; 512];
     graph::sum_costs(places, costs, &mut cost);
-    division::fewest_after(&cost, bound, g, &mut after);
+    division_table::fewest_after(&cost, bound, g, &mut after);
     if n + 1 < folds::wide(after[0]) {
         return Found::Nothing;
     }
-    division::fewest_before(&cost, bound, g, &mut before);
+    division_table::fewest_before(&cost, bound, g, &mut before);
     search(
         from,
         to,
@@ -282,7 +268,7 @@ fn divide(
     requires { ⌜ Coarse (graphOf (now costs) (now starts) (now ends) (now widths)) (now row) (clusters (now row)) (now from) (now to) (now width) ⌝ }
     requires { ⌜ Linked (leave (joining (now from) (now to))) (length (now from)) (now head) (now next) ⌝ }
     requires { ⌜ (0 < k) × (k ≤ 16) × (length (now costs) ≤ length (now table)) ⌝ }
-    ensures { λ r. ⌜ Answers (initialOf (graphOf (now (costs .entry)) (now (starts .entry)) (now (ends .entry)) (now (widths .entry))) k bound (now (row .entry))) (now (table .entry)) (now (table .exit)) r ⌝ }
+    ensures { λ r. ⌜ DividedAs (initialOf (graphOf (now (costs .entry)) (now (starts .entry)) (now (ends .entry)) (now (widths .entry))) k bound (now (row .entry))) (now (table .entry)) (now (table .exit)) r ⌝ }
 {
     let n = costs.len();
     let g = graph::cluster_count(row);
@@ -292,7 +278,7 @@ fn divide(
     let mut at = [0u16; 512];
     let mut places = [0u16; 512];
     invert(order, g, &mut at);
-    through(row, &at, &mut places);
+    graph::through(row, &at, &mut places);
     solve(
         costs,
         from,
@@ -331,11 +317,11 @@ fn divide_at(
 ) -> Found
     requires { ⌜ Proper (graphOf (now costs) (now starts) (now ends) (now widths)) ⌝ }
     requires { ⌜ Layer (graphOf (now costs) (now starts) (now ends) (now widths)) (rowsIn (now rows) (length (now costs)) r) ⌝ }
-    requires { ⌜ Ordered (graphOf (now costs) (now starts) (now ends) (now widths)) (rowsIn (now rows) (length (now costs))) r (now orders) ⌝ }
+    requires { ⌜ OrdersStored (graphOf (now costs) (now starts) (now ends) (now widths)) (rowsIn (now rows) (length (now costs))) r (now orders) ⌝ }
     requires { ⌜ Stored (graphOf (now costs) (now starts) (now ends) (now widths)) (rowsIn (now rows) (length (now costs))) r (length (now starts)) (now from) (now to) (now width) (now sizes) ⌝ }
     requires { ⌜ LinkedAt (length (now starts)) r (now from) (now to) (now sizes) (now head) (now next) ⌝ }
-    requires { ⌜ Lent (length (now costs)) k r (now rows) (now sizes) (now table) ⌝ }
-    ensures { λ f. ⌜ Answers (initialOf (graphOf (now (costs .entry)) (now (starts .entry)) (now (ends .entry)) (now (widths .entry))) k bound (rowsIn (now (rows .entry)) (length (now (costs .entry))) r)) (now (table .entry)) (now (table .exit)) f ⌝ }
+    requires { ⌜ Borrowed (length (now costs)) k r (now rows) (now sizes) (now table) ⌝ }
+    ensures { λ f. ⌜ DividedAs (initialOf (graphOf (now (costs .entry)) (now (starts .entry)) (now (ends .entry)) (now (widths .entry))) k bound (rowsIn (now (rows .entry)) (length (now (costs .entry))) r)) (now (table .entry)) (now (table .exit)) f ⌝ }
 {
     let n = costs.len();
     let m = starts.len();
@@ -405,10 +391,10 @@ pub fn choose(
 ) -> Initial
     requires { ⌜ Proper (graphOf (now costs) (now starts) (now ends) (now widths)) ⌝ }
     requires { ⌜ Hierarchy (graphOf (now costs) (now starts) (now ends) (now widths)) (rowsIn (now rows) (length (now costs))) top ⌝ }
-    requires { ⌜ Ordered (graphOf (now costs) (now starts) (now ends) (now widths)) (rowsIn (now rows) (length (now costs))) top (now orders) ⌝ }
+    requires { ⌜ OrdersStored (graphOf (now costs) (now starts) (now ends) (now widths)) (rowsIn (now rows) (length (now costs))) top (now orders) ⌝ }
     requires { ⌜ Stored (graphOf (now costs) (now starts) (now ends) (now widths)) (rowsIn (now rows) (length (now costs))) top (length (now starts)) (now from) (now to) (now width) (now sizes) ⌝ }
     requires { ⌜ LinkedAt (length (now starts)) top (now from) (now to) (now sizes) (now head) (now next) ⌝ }
-    requires { ⌜ Lent (length (now costs)) k top (now rows) (now sizes) (now table) ⌝ }
+    requires { ⌜ Borrowed (length (now costs)) k top (now rows) (now sizes) (now table) ⌝ }
     ensures { λ r. ⌜ Chooses (chosenOf (graphOf (now (costs .entry)) (now (starts .entry)) (now (ends .entry)) (now (widths .entry))) k bound (rowsIn (now (rows .entry)) (length (now (costs .entry)))) top) (now (table .entry)) (now (table .exit)) r ⌝ }
     ensures { λ r. ⌜ LinkedThere (length (now (starts .entry))) (now (from .entry)) (now (to .entry)) (now (sizes .entry)) (now (head .exit)) (now (next .exit)) r ⌝ }
 {

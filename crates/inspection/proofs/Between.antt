@@ -21,7 +21,7 @@ use Rattle.validity.proofs.Checks.{at-hit, at-pass}
 use Rattle.inspection.specs.declared.Inspected.the-variants.{Cut, Failed}
 use Rattle.inspection.specs.declared.Inspected.{Inspected}
 use Rattle.inspection.specs.Table.{cyclesFrom}
-use Rattle.inspection.specs.Inspect.{Judged}
+use Rattle.inspection.specs.Contracts.{Judged}
 
 -- what a verdict comes to, from what it is
 module _ {v : Verdict} {A : Arcs} {widths order order′ : List ℕ} {k : ℕ} where

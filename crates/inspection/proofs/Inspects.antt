@@ -19,7 +19,8 @@ use Rattle.validity.specs.declared.Verdict.{Verdict}
 use Rattle.validity.specs.declared.Verdict.the-variants.{Passed, Refused}
 use Rattle.validity.proofs.Passed.{number-passed, passed-valid, valid-sound}
 use Rattle.inspection.specs.Table.{tableOf, Fine}
-use Rattle.inspection.specs.Inspect.{answerOf, partsOf, verdictOf, inspectOf, orderAfter, Tabled, Judged}
+use Rattle.inspection.specs.Inspect.{answerOf, partsOf, verdictOf, inspectOf, orderAfter}
+use Rattle.inspection.specs.Contracts.{TableReady, Judged}
 use Rattle.inspection.specs.declared.Inspected.{Inspected}
 use Rattle.inspection.proofs.Tables.{passed-fine, fine-passed}
 
@@ -49,7 +50,7 @@ module _ (G : Graph) (k bound : ℕ) (table order : List ℕ) (room : Bool) (v :
         let (a, b) = both (leb (vertices G) (length table)) (leb k (length order)) (sym er ∙ valid .1) in
         (leb-true _ _ a, leb-true _ _ b)
 
-    pub tabled : Tabled G k (partsOf G table) order
+    pub tabled : TableReady G k (partsOf G table) order
     unfolding partsOf
     tabled = record { proper = sound .proper; whole = length-take-le (vertices G) table (rooms .0); few = sound .few; room = rooms .1 }
 

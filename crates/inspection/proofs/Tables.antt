@@ -26,7 +26,7 @@ use Rattle.validity.specs.declared.Verdict.{Verdict}
 use Rattle.validity.specs.declared.Verdict.the-variants.{Passed}
 use Rattle.validity.proofs.Passed.{passed-at}
 use Rattle.inspection.specs.Table.{badEntry, isEmpty, isOver, cyclesFrom, tableOf, Fine}
-use Rattle.inspection.specs.Inspect.{Tabled}
+use Rattle.inspection.specs.Contracts.{TableReady}
 
 -- a part is empty exactly if its cost is 0, where each vertex costs something
 module _ (costs parts : List ℕ) (costly : (v : ℕ) → v < length costs → 0 < getD costs v 0) where
@@ -47,7 +47,7 @@ module _ (costs parts : List ℕ) (costly : (v : ℕ) → v < length costs → 0
           absurd (omega (arith, costly v l, eqb-true (sumTo (length costs) (λ v. when (eqb (getD parts v 0) u) (getD costs v 0))) 0 t)))
           (λ n. rw n)
 
-module _ {G : Graph} {k : ℕ} {parts order : List ℕ} (T : Tabled G k parts order) where
+module _ {G : Graph} {k : ℕ} {parts order : List ℕ} (T : TableReady G k parts order) where
   -- the search of check 10, over the entries of the table
   pub entry-at : {v : ℕ} → v ≡ firstTo (length parts) (badEntry k parts) → v ≡ firstTo (vertices G) (badEntry k parts)
   entry-at e = e ∙ ap (λ (n : ℕ). firstTo n (badEntry k parts)) (T .whole)

@@ -1,15 +1,14 @@
 -- Inspection of a table, whichever program made it.
-use Prim.Native.Nat.{ℕ, _≤_}
-use mathlib.Core.Path.{_≡_}
+use Prim.Native.Nat.{ℕ}
 use mathlib.Core.Bool.{_&&_}
 use mathlib.Core.List.{List, [], _∷_}
 use lib.Dec.{leb}
 use lib.ListN.{length, take}
 use Rattle.folds.specs.Fold.{over}
-use Rattle.graph.specs.Graph.{Graph, vertices, Arcs, seen, cut, cutOf, Proper}
+use Rattle.graph.specs.Graph.{Graph, vertices, Arcs, seen, cut, cutOf}
 use Rattle.topology.specs.Order.{orderOf}
 use Rattle.validity.specs.Cause.{Answer, refusal, answered, ifPassed, told}
-use Rattle.validity.specs.Check.{checked}
+use Rattle.validity.specs.Check.{mostVertices, checked}
 use Rattle.validity.specs.declared.Verdict.{Verdict}
 use Rattle.validity.specs.declared.Verdict.the-variants.{Refused}
 use Rattle.inspection.specs.Table.{tableOf}
@@ -28,7 +27,7 @@ partsOf G table = take (vertices G) table
 -- checks 1 to 8 (4: table under n, order under k), then 10 to 13
 unfoldable pub verdictOf : Graph → ℕ → ℕ → List ℕ → List ℕ → Verdict
 verdictOf G k bound table order =
-    ifPassed (checked 512 G k bound (leb (vertices G) (length table) && leb k (length order))) (tableOf G k bound (partsOf G table)) Refused
+    ifPassed (checked mostVertices G k bound (leb (vertices G) (length table) && leb k (length order))) (tableOf G k bound (partsOf G table)) Refused
 
 -- the answer: the cut of the table, or the refusal
 unfoldable pub inspectOf : Graph → ℕ → ℕ → List ℕ → List ℕ → Answer
@@ -40,15 +39,3 @@ orderFor v A k order = ifPassed v (over (orderOf A k) order) (λ cause place. or
 
 unfoldable pub orderAfter : Graph → ℕ → ℕ → List ℕ → List ℕ → List ℕ
 orderAfter G k bound table order = orderFor (verdictOf G k bound table order) (seen G (partsOf G table)) k order
-
--- what checks 1 to 8 leave known: an entry for each vertex, and room for the start order
-pub record Tabled (G : Graph) (k : ℕ) (parts order : List ℕ) : Type 0 where
-  pub proper : Proper G
-  pub whole : length parts ≡ vertices G
-  pub few : k ≤ 16
-  pub room : k ≤ length order
-
--- what a verdict on a table comes to: its cut and the start order of its parts, or the refusal
-pub record Judged (v : Verdict) (A : Arcs) (widths : List ℕ) (k : ℕ) (order order′ : List ℕ) (r : Inspected) : Type 0 where
-  pub answer : answerOf r ≡ told v (cut A widths ∷ [])
-  pub after : order′ ≡ orderFor v A k order

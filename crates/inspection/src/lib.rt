@@ -10,7 +10,8 @@ ghost use Rattle.graph.specs.Links.{Ends, Joins, Ended};
 ghost use Rattle.topology.specs.Order.{orderOf};
 ghost use Rattle.topology.specs.Reach.{lowestOnCycle};
 ghost use Rattle.inspection.specs.Table.{badEntry, cyclesFrom, tableOf};
-ghost use Rattle.inspection.specs.Inspect.{answerOf, inspectOf, orderAfter, Tabled, Judged};
+ghost use Rattle.inspection.specs.Inspect.{answerOf, inspectOf, orderAfter};
+ghost use Rattle.inspection.specs.Contracts.{TableReady, Judged};
 use validity::Cause;
 use validity::Verdict;
 
@@ -86,13 +87,14 @@ fn order_parts(from: &[u16], to: &[u16], k: usize, order: &mut [u16]) -> usize
     ensures { λ r. ⌜ now (order .exit) ≡ pick (ltb r k) (now (order .entry)) (over (orderOf (joining (now (from .entry)) (now (to .entry))) k) (now (order .entry))) ⌝ }
 {
     let mut taken = [0u16; 512];
+    let mut levels = [0u16; 512];
     let mut head = [0u16; 513];
     let mut next = [0u16; 1024];
-    let u = topology::lowest_on_cycle(from, to, k, &mut taken, &mut head, &mut next);
+    let u = ordering::lowest_on_cycle(from, to, k, &mut taken, &mut levels, &mut head, &mut next);
     if u < k {
         return u;
     }
-    topology::order_by(from, to, &head, &next, k, order);
+    ordering::order_by(from, to, &head, &next, k, order, &mut levels);
     u
 }
 
@@ -134,7 +136,7 @@ fn check_table(
     parts: &[u16],
     order: &mut [u16],
 ) -> Inspected
-    requires { ⌜ Tabled (graphOf (now costs) (now starts) (now ends) (now widths)) k (now parts) (now order) ⌝ }
+    requires { ⌜ TableReady (graphOf (now costs) (now starts) (now ends) (now widths)) k (now parts) (now order) ⌝ }
     ensures { λ r. ⌜ Judged (tableOf (graphOf (now (costs .entry)) (now (starts .entry)) (now (ends .entry)) (now (widths .entry))) k bound (now (parts .entry))) (arcs (now (parts .entry)) (now (starts .entry)) (now (ends .entry))) (now (widths .entry)) k (now (order .entry)) (now (order .exit)) r ⌝ }
 {
     let v = bad_entry(parts, k);
@@ -180,6 +182,7 @@ pub fn inspect(
     let n = costs.len();
     let room = enough(table.len(), n, order.len(), k);
     let mut taken = [0u16; 512];
+    let mut levels = [0u16; 512];
     let mut head = [0u16; 513];
     let mut next = [0u16; 1024];
     let checked = validity::check(
@@ -192,6 +195,7 @@ pub fn inspect(
         bound,
         room,
         &mut taken,
+        &mut levels,
         &mut head,
         &mut next,
     );

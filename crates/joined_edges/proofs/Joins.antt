@@ -1,22 +1,22 @@
 -- Joining the edges of one cluster: what each turn of the loops keeps.
-use Prim.Native.Nat.{ℕ, _+_, _≤_, _<_, _^_}
+use Prim.Native.Nat.{ℕ, _+_, _≤_, _<_}
 use mathlib.Core.Path.{_≡_, refl, sym, ap, _∙_}
-use mathlib.Core.Bool.{Bool, true, false, not, _&&_}
+use mathlib.Core.Bool.{Bool, false, not, _&&_}
 use mathlib.Core.List.{List}
 use native.Mathlib.Omega.{arith}
 use lib.Dec.{eqb, ltb, leb}
 use lib.ListN.{length, getD, set, length-set}
 use lib.Seq.{getD-set-same, getD-set-other, ext-getD}
 use borrow.Author.Tests.{eqb-true, eq-eqb, ne-eqb, ltb-true, ltb-false, lt-ltb, le-ltb, le-leb, lt-leb}
-use Rattle.folds.specs.Fold.{pick, when, sumTo, zeros}
+use Rattle.folds.specs.Fold.{when, sumTo, zeros, mostWidth}
 use Rattle.folds.proofs.Cases.{by, either, eq-or-ne, when-zero, when-le}
 use Rattle.folds.proofs.Sums.{sumTo-zero, sumTo-step, sumTo-mono, sumTo-less, sumTo-ext, sumTo-none, sumTo-add, sumTo-le}
 use Rattle.folds.proofs.Lists.{getD-zeros, length-zeros, set-add}
 use Rattle.graph.specs.Graph.{Arcs, crossing, Inside}
 use Rattle.graph.specs.Links.{Linked, leave}
 use Rattle.graph.specs.Coarse.{sent, Narrow}
-use Rattle.graph.proofs.Links.{leave-at, leave-from, stays, On, Only, sum-on, sum-next}
-use Rattle.joined_edges.specs.Joining.{between, pairSum, Widths, Listed, Written, Writing, Put}
+use Rattle.graph.proofs.Links.{leave-from, stays, On, Only, sum-on, sum-next}
+use Rattle.joined_edges.specs.Joining.{between, pairSum, Widths, ListedUpTo, Written, Writing, Put}
 
 module _ (A : Arcs) (widths : List ℕ) (u : ℕ) where
   -- an edge that leaves u counts in full
@@ -42,7 +42,7 @@ module _ (A : Arcs) (widths : List ℕ) (u : ℕ) where
       omega (arith, when-le (eqb (A .from j) u && eqb (A .to j) b) (when (not (eqb (A .from j) (A .to j))) (getD widths j 0)), when-le (not (eqb (A .from j) (A .to j))) (getD widths j 0))
 
   -- the sums stay below the sum of all widths
-  pub sums-room : {j b : ℕ} {sums : List ℕ} → Widths A widths u j sums → b < 512 → j < length widths → Narrow widths → getD sums b 0 + getD widths j 0 ≤ 67107840
+  pub sums-room : {j b : ℕ} {sums : List ℕ} → Widths A widths u j sums → b < 512 → j < length widths → Narrow widths → getD sums b 0 + getD widths j 0 ≤ mostWidth
   sums-room {j} {b} W l lj N =
       omega (arith, W .is b l, sumTo-mono j (sent A widths u b) (λ i. getD widths i 0) (λ i _. sent-le b i), sumTo-step j (λ i. getD widths i 0), sumTo-less (λ i. getD widths i 0) (j + 1) (length widths) (omega arith))
 
@@ -73,7 +73,7 @@ at-or : (l : List ℕ) (k x : ℕ) {i : ℕ} (P : ℕ → Type 0) → k < length
 at-or l k x {i} P lk li old new =
     either (eq-or-ne i k) (λ e. rw (e, getD-set-same l k x 0 lk) (new e)) (λ n. rw (getD-set-other l k i x 0 n) (old (omega arith)))
 
-module _ {g u k b w : ℕ} {froms tos ws : List ℕ} (L : Listed g (u + 1) k froms tos ws) (lk : k < 1024) (lb : b < g) (n : u ≡ b → ⊥) (lw : 0 < w)
+module _ {g u k b w : ℕ} {froms tos ws : List ℕ} (L : ListedUpTo g (u + 1) k froms tos ws) (lk : k < 1024) (lb : b < g) (n : u ≡ b → ⊥) (lw : 0 < w)
     (new : (i : ℕ) → i < k → getD froms i 0 ≡ u → getD tos i 0 ≡ b → ⊥) where
   kf : k < length froms
   kf = omega (arith, L .tall-from)
@@ -90,7 +90,7 @@ module _ {g u k b w : ℕ} {froms tos ws : List ℕ} (L : Listed g (u + 1) k fro
   old-t : (i : ℕ) → (i ≡ k → ⊥) → getD (set tos k b) i 0 ≡ getD tos i 0
   old-t i e = getD-set-other tos k i b 0 e
 
-  listed-more : Listed g (u + 1) (k + 1) (set froms k u) (set tos k b) (set ws k w)
+  listed-more : ListedUpTo g (u + 1) (k + 1) (set froms k u) (set tos k b) (set ws k w)
   listed-more =
       record {
         tall-from = length-set froms k u ∙ L .tall-from;

@@ -1,22 +1,22 @@
 -- What is listed is the graph of the rung, in lists; and joining twice is joining by the combined row.
-use Prim.Native.Nat.{ℕ, _+_, _≤_, _<_}
+use Prim.Native.Nat.{ℕ, _≤_, _<_}
 use mathlib.Core.Path.{_≡_, refl, sym, ap, _∙_}
 use mathlib.Core.Bool.{Bool, true, false, not, _&&_}
-use mathlib.Core.List.{List, []}
+use mathlib.Core.List.{List}
 use native.Mathlib.Omega.{arith}
 use lib.Dec.{eqb, ltb}
 use lib.ListN.{length, getD, take}
 use lib.Seq.{getD-take, length-take-le}
-use borrow.Author.Tests.{eqb-true, eq-eqb, ne-eqb, ltb-true, ltb-false, lt-ltb, le-ltb}
+use borrow.Author.Tests.{eqb-true, eq-eqb, ne-eqb, ltb-true, ltb-false}
 use Rattle.folds.specs.Fold.{when, sumTo}
-use Rattle.folds.proofs.Cases.{by, either, eq-or-ne, both, when-le, when-zero, and-false}
+use Rattle.folds.proofs.Cases.{by, either, eq-or-ne, both, when-le, and-false}
 use Rattle.folds.proofs.Sums.{sumTo-ext, sumTo-mono, sumTo-none, sumTo-when, sumTo-only, sumTo-swap, sumTo-le}
-use Rattle.graph.specs.Graph.{Graph, graphOf, vertices, edges, via, identity, Arcs, arcs, seen, widthOf, crossing, through, Inside, Formed, RowOf}
+use Rattle.graph.specs.Graph.{Graph, graphOf, edges, identity, Arcs, arcs, seen, widthOf, crossing, through, Inside, Formed, RowOf}
 use Rattle.graph.specs.Links.{leave}
 use Rattle.graph.specs.Coarse.{sent, Narrow, Coarse}
 use Rattle.graph.proofs.Edges.{identity-at, through-at}
 use Rattle.graph.proofs.Coarse.{coarse-sum}
-use Rattle.joined_edges.specs.Joining.{between, pairSum, Listed, Written}
+use Rattle.joined_edges.specs.Joining.{between, pairSum, Written}
 
 when-and : (p q : Bool) (w : ℕ) → when (p && q) w ≡ when p (when q w)
 when-and true q w = refl

@@ -1,7 +1,7 @@
 -- Joining the edges between clusters: what the loops hold on the way.
 use Prim.Native.Nat.{ℕ, _+_, _≤_, _<_}
 use mathlib.Core.Path.{_≡_}
-use mathlib.Core.Bool.{Bool, _&&_}
+use mathlib.Core.Bool.{_&&_}
 use mathlib.Core.List.{List}
 use lib.Dec.{eqb, ltb, leb}
 use lib.ListN.{length, getD, set}
@@ -23,7 +23,7 @@ pub record Widths (A : Arcs) (widths : List ℕ) (u j : ℕ) (sums : List ℕ) :
   pub is : (b : ℕ) → b < 512 → getD sums b 0 ≡ sumTo j (sent A widths u b)
 
 -- the first k listed edges: each goes from a cluster below u to another one of g, none is listed twice
-pub record Listed (g u k : ℕ) (froms tos widths : List ℕ) : Type 0 where
+pub record ListedUpTo (g u k : ℕ) (froms tos widths : List ℕ) : Type 0 where
   pub tall-from : length froms ≡ 1024
   pub tall-to : length tos ≡ 1024
   pub tall-width : length widths ≡ 1024
@@ -35,13 +35,13 @@ pub record Listed (g u k : ℕ) (froms tos widths : List ℕ) : Type 0 where
 
 -- the clusters below u have their edges: k of them
 pub record Written (A : Arcs) (widths : List ℕ) (g u k : ℕ) (froms tos ws : List ℕ) : Type 0 where
-  pub listed : Listed g u k froms tos ws
+  pub listed : ListedUpTo g u k froms tos ws
   pub few : k ≤ sumTo (A .count) (λ i. when (ltb (leave A i) u) 1)
   pub is : (a b : ℕ) → b < 512 → pairSum froms tos ws k a b ≡ when (ltb a u) (between A widths a b)
 
 -- the same while the edges of u below j are read: the sums hold what is still to be written of u
 pub record Writing (A : Arcs) (widths : List ℕ) (g u j k : ℕ) (sums froms tos ws : List ℕ) : Type 0 where
-  pub listed : Listed g (u + 1) k froms tos ws
+  pub listed : ListedUpTo g (u + 1) k froms tos ws
   pub tall : length sums ≡ 512
   pub few : k ≤ sumTo (A .count) (λ i. when (ltb (leave A i) u) 1) + sumTo j (λ i. when (eqb (leave A i) u) 1)
   pub spent : (i : ℕ) → i < k → getD froms i 0 ≡ u → getD sums (getD tos i 0) 0 ≡ 0

@@ -1,7 +1,7 @@
 // One edge for all edges from one cluster to another, with their summed width.
 ghost use mathlib.Core.Path.{_≡_};
-ghost use Prim.Native.Nat.{ℕ, _+_, _<_, _≤_};
-ghost use lib.ListN.{length, getD};
+ghost use Prim.Native.Nat.{_+_, _<_, _≤_};
+ghost use lib.ListN.{length};
 ghost use Rattle.folds.specs.Fold.{zeros};
 ghost use Rattle.graph.specs.Graph.{arcs, Inside};
 ghost use Rattle.graph.specs.Links.{Linked, Joins, leave, Leaves};

@@ -24,7 +24,7 @@ use Rattle.line_forms.specs.Stand.{Low}
 use Rattle.validity.specs.declared.Cause.the-variants.{Length, Line, Lines}
 use Rattle.kit_lines.proofs.Says.{refused-accepted}
 use Rattle.kit_lines.specs.Kit.{Kit, Says, accepted, refused, kitFrom, blockRows, wireRows, kitWith, kitAfter, kitLines, kitOf}
-use Rattle.kit_lines.specs.Grammar.{single, triples, kitText, Within}
+use Rattle.kit_lines.specs.Grammar.{single, triples, kitText, InRanges}
 use Rattle.kit_lines.proofs.Lines.{kit-clear, block-clear, wire-clear}
 
 -- ---------------------------------------------------------------- the three forms are told apart by their second byte
@@ -129,7 +129,7 @@ unfolding printed printedFields decimal digits
 longest-wire = refl
 
 -- every kit within the ranges has a text of at most 65,536 bytes
-pub text-short : (k : Kit) → Within k → length (kitText k) ≤ 65536
+pub text-short : (k : Kit) → InRanges k → length (kitText k) ≤ 65536
 unfolding kitText
 text-short k w =
     let r = triples-rows (k .starts) (k .ends) (k .widths) (w .ends-all) (w .widths-all) (w .starts) (w .ends) (w .widths) in
@@ -184,7 +184,7 @@ text-lines k =
     ∙ ap (λ (ls : List (List ℕ)). printed kitForm (length (k .costs) ∷ k .stages ∷ k .limit ∷ []) ∷ ls)
     (lines-all blockForm block-clear (single (k .costs)) _ ∙ ap (λ (ls : List (List ℕ)). printedRows blockForm (single (k .costs)) ++ ls) (lines-only wireForm wire-clear (triples (k .starts) (k .ends) (k .widths))))
 
-pub accepted-own : (k : Kit) → Within k → kitOf (kitText k) ≡ accepted k
+pub accepted-own : (k : Kit) → InRanges k → kitOf (kitText k) ≡ accepted k
 unfolding kitOf
 accepted-own k w =
     let r = triples-rows (k .starts) (k .ends) (k .widths) (w .ends-all) (w .widths-all) (w .starts) (w .ends) (w .widths) in
@@ -252,7 +252,7 @@ module _ (head : List ℕ) (ls : List (List ℕ)) (fit : fits (kitForm .fields) 
   unfolding wireRows
   ws-few = leading-few (ofForm wireForm) 0 1024 (drop (length bs) ls)
 
-  passed-within : Within (kitFrom head bs ws)
+  passed-within : InRanges (kitFrom head bs ws)
   passed-within =
       record {
         stages = fits-most (kitForm .fields) head 1 fit;
@@ -287,21 +287,21 @@ module _ (head : List ℕ) (ls : List (List ℕ)) (fit : fits (kitForm .fields) 
       let f : flatten ls ≡ printedAll blockForm bs ++ (printedAll wireForm ws ++ []) = ap flatten lines-are ∙ (flat-rows blockForm bs _ ∙ ap (λ (s : List ℕ). printedAll blockForm bs ++ s) (flat-rows wireForm ws [])) in
       rw (h, single-column bs bs-fit, triples-column ws ws-fit, f, append-nil (printedAll wireForm ws))
 
-pub accepted-sound : (t : List ℕ) (k : Kit) → kitOf t ≡ accepted k → (t ≡ kitText k) × Within k
+pub accepted-sound : (t : List ℕ) (k : Kit) → kitOf t ≡ accepted k → (t ≡ kitText k) × InRanges k
 unfolding kitOf kitLines
 accepted-sound t k e = ⊎-elim (λ x. absurd (refused-accepted Length 0 k (x .1))) (λ x. in-lines (linesOf t) refl (x .1)) (chose (ltb 65536 (length t)) (refused Length 0) (kitLines (linesOf t)) (accepted k) e)
   where
-    body : (l : List ℕ) (ls : List (List ℕ)) → linesOf t ≡ l ∷ ls → (head : List ℕ) → asForm kitForm l ≡ some head → kitAfter head ls ≡ accepted k → (t ≡ kitText k) × Within k
+    body : (l : List ℕ) (ls : List (List ℕ)) → linesOf t ≡ l ∷ ls → (head : List ℕ) → asForm kitForm l ≡ some head → kitAfter head ls ≡ accepted k → (t ≡ kitText k) × InRanges k
     body l ls h head a q =
         let p = after-passed head ls k q in
         let s = as-sound kitForm kit-clear l head a in
         let x : t ≡ printed kitForm head ++ flatten ls = sym (flat-lines t) ∙ (ap flatten h ∙ flat-cons l ls ∙ ap (λ (z : List ℕ). z ++ flatten ls) (s .0)) in
         rw (← p .kit) (x ∙ passed-text head ls (s .1) (p .none-left) (p .counted), passed-within head ls (s .1) (p .none-left) (p .counted))
 
-    in-lines : (ls : List (List ℕ)) → linesOf t ≡ ls → kitLines ls ≡ accepted k → (t ≡ kitText k) × Within k
+    in-lines : (ls : List (List ℕ)) → linesOf t ≡ ls → kitLines ls ≡ accepted k → (t ≡ kitText k) × InRanges k
     in-lines [] h q = absurd (refused-accepted Line 1 k q)
     in-lines (l ∷ ls) h q = at (asForm kitForm l) refl q
       where
-        at : (o : Option (List ℕ)) → asForm kitForm l ≡ o → _≡_ {A = Says} (elim o [ some head ↦ kitAfter head ls | none ↦ refused Line 1 ]) (accepted k) → (t ≡ kitText k) × Within k
+        at : (o : Option (List ℕ)) → asForm kitForm l ≡ o → _≡_ {A = Says} (elim o [ some head ↦ kitAfter head ls | none ↦ refused Line 1 ]) (accepted k) → (t ≡ kitText k) × InRanges k
         at (some head) a r = body l ls h head a r
         at none a r = absurd (refused-accepted Line 1 k r)

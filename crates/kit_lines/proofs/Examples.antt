@@ -2,9 +2,10 @@
 use Prim.Native.String.{String, _++_}
 use mathlib.Core.Path.{_≡_, refl}
 use mathlib.Core.List.{[], _∷_}
+use Rattle.folds.specs.Fold.{same}
 use Rattle.decimal.specs.Decimal.{bytes, digits, decimal, digit, numbers, numbersIn}
 use Rattle.validity.specs.declared.Cause.the-variants.{Line}
-use Rattle.line_forms.specs.Form.{printedFields, printed, fits, same, asForm}
+use Rattle.line_forms.specs.Form.{printedFields, printed, fits, asForm}
 use Rattle.line_forms.specs.Lines.{linesOf, leading, column}
 use Rattle.kit_lines.specs.Kit.{accepted, refused, blockRows, wireRows, kitWith, kitAfter, kitLines, kitOf}
 

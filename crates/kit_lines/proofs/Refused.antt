@@ -10,11 +10,11 @@ use lib.Dec.{ltb, eqb}
 use lib.ListN.{length, getD, drop, length-drop}
 use lib.Seq.{getD-drop}
 use borrow.Author.Tests.{lt-ltb, le-ltb, ne-eqb, ltb-true, ltb-false, eqb-true, eqb-false}
-use Rattle.folds.specs.Fold.{pick}
+use Rattle.folds.specs.Fold.{pick, same}
 use Rattle.folds.proofs.Cases.{no-bool, by, and-false}
 use Rattle.folds.proofs.Counts.{count-run, count-past}
 use Rattle.decimal.specs.Decimal.{numbers, numbersIn}
-use Rattle.line_forms.specs.Form.{printedFields, printed, fits, same, asForm}
+use Rattle.line_forms.specs.Form.{printedFields, printed, fits, asForm}
 use Rattle.line_forms.specs.Lines.{ofForm}
 use Rattle.line_forms.proofs.Lines.{leading-few}
 use Rattle.line_forms.proofs.Rows.{apart, leading-each, leading-last, leading-short}

@@ -30,7 +30,7 @@ kitText k =
     ++ (printedAll blockForm (single (k .costs)) ++ printedAll wireForm (triples (k .starts) (k .ends) (k .widths)))
 
 -- the kits that have a text: limits to 99,999,999, other values to 65,535, at most 512 blocks and 1,024 wires
-pub record Within (k : Kit) : Type 0 where
+pub record InRanges (k : Kit) : Type 0 where
   pub stages : k .stages ≤ 65535
   pub limit : k .limit ≤ 99999999
   pub blocks : length (k .costs) ≤ 512

@@ -17,13 +17,13 @@ use Rattle.validity.specs.declared.Cause.{Cause}
 use Rattle.validity.specs.declared.Cause.the-variants.{Room, Length, Line, Lines}
 use Rattle.kit_lines.proofs.Says.{refused-accepted, same-refusal}
 use Rattle.kit_lines.specs.Kit.{Kit, Says, accepted, refused, kitLines, kitOf}
-use Rattle.kit_lines.specs.Grammar.{kitText, Within, stands, Miscounted}
-use Rattle.kit_text.specs.Reading.{Lists, lists, roomed, readingOf, written, Roomy}
+use Rattle.kit_lines.specs.Grammar.{kitText, InRanges, stands, Miscounted}
+use Rattle.kit_text.specs.Reading.{Lists, lists, roomed, readingOf, written, ListsRoom}
 use Rattle.kit_lines.proofs.Accepted.{accepted-own, accepted-sound}
 use Rattle.kit_lines.proofs.Refused.{lines-fifteen, lines-sixteen, lines-causes}
 
 -- ---------------------------------------------------------------- check 4
-roomed-yes : (old : Lists) (k : Kit) → Roomy old k → roomed old (accepted k) ≡ accepted k
+roomed-yes : (old : Lists) (k : Kit) → ListsRoom old k → roomed old (accepted k) ≡ accepted k
 unfolding roomed
 roomed-yes old k r = rw (le-ltb _ _ (r .costs), le-ltb _ _ (r .starts), le-ltb _ _ (r .ends), le-ltb _ _ (r .widths))
 
@@ -31,7 +31,7 @@ shorter : (a b : ℕ) → ltb a b ≡ true → b ≤ a → ⊥
 shorter a b e h = omega (arith, ltb-true a b e)
 
 -- it is passed, or refuses
-roomed-or : (old : Lists) (k : Kit) → Roomy old k ⊎ ((roomed old (accepted k) ≡ refused Room 0) × (Roomy old k → ⊥))
+roomed-or : (old : Lists) (k : Kit) → ListsRoom old k ⊎ ((roomed old (accepted k) ≡ refused Room 0) × (ListsRoom old k → ⊥))
 unfolding roomed
 roomed-or old k =
     by (ltb (length (old .costs)) (length (k .costs))) (λ e. inr (rw e, λ r. shorter _ _ e (r .costs)))
@@ -63,11 +63,11 @@ of-lines t c p h = (there (long-or t), λ x. back (x .0) (x .1) (long-or t))
 
 -- ---------------------------------------------------------------- each answer
 -- accepted exactly if the text is that of a kit within the ranges, and the lists are long enough
-pub accepted-exactly : (t : List ℕ) (old : Lists) (k : Kit) → (readingOf t old ≡ accepted k) ↔ ((t ≡ kitText k) × Within k × Roomy old k)
+pub accepted-exactly : (t : List ℕ) (old : Lists) (k : Kit) → (readingOf t old ≡ accepted k) ↔ ((t ≡ kitText k) × InRanges k × ListsRoom old k)
 unfolding readingOf roomed
 accepted-exactly t old k = (λ e. there (kitOf t) refl e, λ x. rw (x .0, accepted-own k (x .1)) (roomed-yes old k (x .2)))
   where
-    fine : (j : Kit) → kitOf t ≡ accepted j → roomed old (accepted j) ≡ accepted k → Roomy old j ⊎ ((roomed old (accepted j) ≡ refused Room 0) × (Roomy old j → ⊥)) → (t ≡ kitText k) × Within k × Roomy old k
+    fine : (j : Kit) → kitOf t ≡ accepted j → roomed old (accepted j) ≡ accepted k → ListsRoom old j ⊎ ((roomed old (accepted j) ≡ refused Room 0) × (ListsRoom old j → ⊥)) → (t ≡ kitText k) × InRanges k × ListsRoom old k
     fine j q e (inr x) = absurd (refused-accepted Room 0 k (sym (x .0) ∙ e))
     fine j q e (inl r) =
         let z : j ≡ k = same-kit (sym (roomed-yes old j r) ∙ e) in
@@ -77,7 +77,7 @@ accepted-exactly t old k = (λ e. there (kitOf t) refl e, λ x. rw (x .0, accept
         same-kit : accepted j ≡ accepted k → j ≡ k
         same-kit h = cc
 
-    there : (a : Says) → kitOf t ≡ a → roomed old a ≡ accepted k → (t ≡ kitText k) × Within k × Roomy old k
+    there : (a : Says) → kitOf t ≡ a → roomed old a ≡ accepted k → (t ≡ kitText k) × InRanges k × ListsRoom old k
     there (refused c p) q e = absurd (refused-accepted c p k e)
     there (accepted j) q e = fine j q e (roomed-or old j)
 
@@ -92,26 +92,26 @@ never-four t c p e z = go (long-or t)
     go (short h q) = ⊎-elim (λ y. omega (arith, ap numberOf (sym y ∙ z))) (λ y. omega (arith, ap numberOf (sym y ∙ z))) (lines-causes (linesOf t) c p (sym q ∙ e))
 
 -- the round trip: reading the text of a kit gives its lists back
-pub round-trip : (k : Kit) (old : Lists) → Within k → Roomy old k
+pub round-trip : (k : Kit) (old : Lists) → InRanges k → ListsRoom old k
     → (readingOf (kitText k) old ≡ accepted k)
     × (written (readingOf (kitText k) old) old ≡ lists (over (k .costs) (old .costs)) (over (k .starts) (old .starts)) (over (k .ends) (old .ends)) (over (k .widths) (old .widths)))
 unfolding written
 round-trip k old w r = let e = accepted-exactly (kitText k) old k .1 (refl, w, r) in (e, rw e)
 
 -- 4, place 0, exactly if the text is that of a kit and some list is too short for it
-pub four-exactly : (t : List ℕ) (old : Lists) (p : ℕ) → (readingOf t old ≡ refused Room p) ↔ ((p ≡ 0) × ((k : Kit) × (t ≡ kitText k) × Within k × (Roomy old k → ⊥)))
+pub four-exactly : (t : List ℕ) (old : Lists) (p : ℕ) → (readingOf t old ≡ refused Room p) ↔ ((p ≡ 0) × ((k : Kit) × (t ≡ kitText k) × InRanges k × (ListsRoom old k → ⊥)))
 unfolding readingOf roomed
 four-exactly t old p = (λ e. there (kitOf t) refl e, λ x. back (x .0) (x .1 .0) (x .1 .1) (x .1 .2) (x .1 .3) (roomed-or old (x .1 .0)))
   where
-    fine : (k : Kit) → kitOf t ≡ accepted k → roomed old (accepted k) ≡ refused Room p → Roomy old k ⊎ ((roomed old (accepted k) ≡ refused Room 0) × (Roomy old k → ⊥)) → (p ≡ 0) × ((k : Kit) × (t ≡ kitText k) × Within k × (Roomy old k → ⊥))
+    fine : (k : Kit) → kitOf t ≡ accepted k → roomed old (accepted k) ≡ refused Room p → ListsRoom old k ⊎ ((roomed old (accepted k) ≡ refused Room 0) × (ListsRoom old k → ⊥)) → (p ≡ 0) × ((k : Kit) × (t ≡ kitText k) × InRanges k × (ListsRoom old k → ⊥))
     fine k q e (inl r) = absurd (refused-accepted Room p k (sym e ∙ roomed-yes old k r))
     fine k q e (inr x) = let s = accepted-sound t k q in (sym (same-refusal Room Room 0 p (sym (x .0) ∙ e) .1), (k, s .0, s .1, x .1))
 
-    there : (a : Says) → kitOf t ≡ a → roomed old a ≡ refused Room p → (p ≡ 0) × ((k : Kit) × (t ≡ kitText k) × Within k × (Roomy old k → ⊥))
+    there : (a : Says) → kitOf t ≡ a → roomed old a ≡ refused Room p → (p ≡ 0) × ((k : Kit) × (t ≡ kitText k) × InRanges k × (ListsRoom old k → ⊥))
     there (accepted k) q e = fine k q e (roomed-or old k)
     there (refused c m) q e = absurd (never-four t c m q (same-refusal c Room m p e .0))
 
-    back : p ≡ 0 → (k : Kit) → t ≡ kitText k → Within k → (Roomy old k → ⊥) → Roomy old k ⊎ ((roomed old (accepted k) ≡ refused Room 0) × (Roomy old k → ⊥)) → roomed old (kitOf t) ≡ refused Room p
+    back : p ≡ 0 → (k : Kit) → t ≡ kitText k → InRanges k → (ListsRoom old k → ⊥) → ListsRoom old k ⊎ ((roomed old (accepted k) ≡ refused Room 0) × (ListsRoom old k → ⊥)) → roomed old (kitOf t) ≡ refused Room p
     back z k q w h (inl r) = absurd (h r)
     back z k q w h (inr x) = rw (q, accepted-own k w, z) (x .0)
 
@@ -120,7 +120,7 @@ pub other-exactly : (t : List ℕ) (old : Lists) (c : Cause) (p : ℕ) → (c �
 unfolding readingOf roomed
 other-exactly t old c p h = (λ e. there (kitOf t) refl e, λ e. rw e)
   where
-    fine : (k : Kit) → roomed old (accepted k) ≡ refused c p → Roomy old k ⊎ ((roomed old (accepted k) ≡ refused Room 0) × (Roomy old k → ⊥)) → ⊥
+    fine : (k : Kit) → roomed old (accepted k) ≡ refused c p → ListsRoom old k ⊎ ((roomed old (accepted k) ≡ refused Room 0) × (ListsRoom old k → ⊥)) → ⊥
     fine k e (inl r) = refused-accepted c p k (sym e ∙ roomed-yes old k r)
     fine k e (inr x) = h (sym (same-refusal Room c 0 p (sym (x .0) ∙ e) .0))
 

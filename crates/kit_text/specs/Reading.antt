@@ -50,7 +50,7 @@ outcome (reading.Kit blocks wires stages limit) = told Passed (blocks ∷ wires 
 outcome (reading.Refused cause place) = refusal cause place
 
 -- lists that are long enough for a kit
-pub record Roomy (old : Lists) (k : Kit) : Type 0 where
+pub record ListsRoom (old : Lists) (k : Kit) : Type 0 where
   pub costs : length (k .costs) ≤ length (old .costs)
   pub starts : length (k .starts) ≤ length (old .starts)
   pub ends : length (k .ends) ≤ length (old .ends)

@@ -10,7 +10,7 @@ use lib.Dec.{leb, eqb}
 use lib.ListN.{length, drop, length-append}
 use lib.Seq.{append-snoc, drop-drop}
 use borrow.Author.Tests.{eq-eqb, ne-eqb, le-leb, leb-true, eqb-true}
-use Rattle.folds.specs.Fold.{pick}
+use Rattle.folds.specs.Fold.{pick, same}
 use Rattle.folds.proofs.Cases.{no-bool, both, both-i}
 use Rattle.folds.proofs.Cases.{chose}
 use Rattle.decimal.specs.Decimal.{decimal, digit, numbers, numbersIn}
@@ -18,7 +18,7 @@ use Rattle.decimal.specs.Read.{startsOf}
 use Rattle.decimal.specs.declared.Number.{Number}
 use Rattle.decimal.specs.declared.Number.the-variants.{Is, Not}
 use Rattle.decimal.proofs.Text.{stops, by-digits, decimal-one, decimal-long, numbers-decimal, numbers-skip, starts-sound, starts-own, past, field-sound, field-own}
-use Rattle.line_forms.specs.Form.{Field, Form, printedFields, printed, fits, same, asForm, plain, plainWord, plainFields, clear}
+use Rattle.line_forms.specs.Form.{Field, Form, printedFields, printed, fits, asForm, plain, plainWord, plainFields, clear}
 use Rattle.line_forms.specs.Lines.{linesOf, joined, newlines}
 use Rattle.line_forms.specs.Read.{Got, got, nope, onNumber, after, readFields, readForm}
 

@@ -5,7 +5,7 @@ use mathlib.Core.List.{List, [], _∷_, _++_}
 use mathlib.Core.Option.{Option, some, none}
 use lib.Dec.{leb, eqb}
 use lib.ListN.{length}
-use Rattle.folds.specs.Fold.{pick}
+use Rattle.folds.specs.Fold.{pick, same}
 use Rattle.decimal.specs.Decimal.{decimal, digit, numbersIn}
 
 -- a word, and the most that the number after it may be
@@ -40,13 +40,6 @@ fits [] [] = true
 fits [] (v ∷ vs) = false
 fits (f ∷ fs) [] = false
 fits (f ∷ fs) (v ∷ vs) = leb v (f .most) && fits fs vs
-
--- whether two texts are the same
-unfoldable pub same : List ℕ → List ℕ → Bool
-same [] [] = true
-same [] (b ∷ t) = false
-same (a ∷ s) [] = false
-same (a ∷ s) (b ∷ t) = eqb a b && same s t
 
 -- the numbers of a line of that form: those that stand in it, if they are within the ranges and printing them gives the line
 unfoldable pub asForm : Form → List ℕ → Option (List ℕ)

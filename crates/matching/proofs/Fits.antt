@@ -22,8 +22,8 @@ use Rattle.contraction.proofs.Tests.{all-of-e, keeps-more, tested-keeps}
 use Rattle.contraction.proofs.Mates.{Is, alone, first, second, mate-is}
 use Rattle.contraction.proofs.Join.{flat-or-only}
 use Rattle.graph.specs.Coarse.{sent}
-use Rattle.offers.specs.State.{leaves}
-use Rattle.matching.specs.Held.{anyOf}
+use Rattle.matching_scan.specs.State.{leaves}
+use Rattle.matching.specs.Contracts.{anyOf}
 
 -- some pair passes, at an index
 pub any-of-cons : (t : Pair → Bool) (p : Pair) (ps : Round) → anyOf t (p ∷ ps) ≡ (t p || anyOf t ps)

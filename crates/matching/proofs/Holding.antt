@@ -3,7 +3,6 @@ use Prim.Native.Nat.{ℕ, _+_, _<_}
 use mathlib.Core.Path.{_≡_, refl, sym, _∙_}
 use mathlib.Core.Bool.{_&&_}
 use mathlib.Core.List.{List, [], _∷_, _++_}
-use native.Mathlib.Omega.{arith}
 use native.Mathlib.Numerals.{add-one}
 use lib.Dec.{eqb}
 use lib.ListN.{length, getD, set, take, length-set}
@@ -18,8 +17,8 @@ use Rattle.contraction.specs.Rules.{pair, Round}
 use Rattle.contraction.specs.Tests.{allOf}
 use Rattle.contraction.specs.Next.{mateOf}
 use Rattle.matching.specs.Choice.{visit, visits}
-use Rattle.offers.specs.State.{nextIn, Blocking}
-use Rattle.matching.specs.Held.{anyOf, Holds, Tall}
+use Rattle.matching_scan.specs.State.{nextIn, Blocking}
+use Rattle.matching.specs.Contracts.{anyOf, Holds, Tall}
 use Rattle.matching.proofs.Fits.{any-of-cons}
 
 pub holds-none : (A : Arcs) (levels : List ℕ) → Holds A levels [] (listTo 512 (λ c. c)) (zeros 512) (zeros 512)

@@ -1,21 +1,18 @@
 -- A round on a rung's lists is the round on its row.
-use Prim.Native.Nat.{ℕ, zero, suc, _+_, _≤_, _<_}
+use Prim.Native.Nat.{ℕ, _<_}
 use mathlib.Core.Path.{_≡_, refl, sym, ap, _∙_}
-use mathlib.Core.Bool.{Bool, true, false, not, _&&_, _||_}
+use mathlib.Core.Bool.{Bool, not, _&&_, _||_}
 use mathlib.Core.List.{List, [], _∷_}
 use native.Mathlib.Omega.{arith}
-use lib.Dec.{eqb, leb, ltb}
-use lib.ListN.{length, getD, take}
-use lib.Seq.{length-take-le, getD-take}
+use lib.Dec.{eqb, ltb}
+use lib.ListN.{length, getD}
 use borrow.Author.Tests.{eq-eqb, ne-eqb, ltb-true, ltb-false}
 use Rattle.folds.specs.Fold.{when, allTo}
 use Rattle.folds.proofs.Cases.{by, either, eq-or-ne}
 use Rattle.folds.proofs.Sums.{sumTo-ext, sumTo-only, sumTo-none, sumTo-member}
 use Rattle.folds.proofs.Searches.{firstTo-ext}
 use Rattle.folds.proofs.Lists.{listTo-ext, length-listTo, getD-past}
-use Rattle.graph.specs.Walk.{Acyclic}
-use Rattle.graph.specs.Graph.{Graph, graphOf, vertices, edges, identity, Arcs, arcs, seen, edge, Edge, widthOf, partCost, costIn, RowOf, Proper}
-use Rattle.graph.specs.Rows.{clusters}
+use Rattle.graph.specs.Graph.{Graph, graphOf, vertices, identity, Arcs, seen, edge, widthOf, partCost, costIn}
 use Rattle.graph.specs.Coarse.{Coarse}
 use Rattle.graph.proofs.Walks.{acyclic-map}
 use Rattle.graph.proofs.Edges.{identity-at}
@@ -27,7 +24,7 @@ use Rattle.contraction.specs.Rules.{Pair, pair, Round}
 use Rattle.contraction.proofs.Rounds.{identity-clusters}
 use Rattle.contraction.specs.Tests.{allOf, next, onlySuccessor, onlyPredecessor, ruleOne, ruleTwo, fits}
 use Rattle.matching.specs.Choice.{mayTake, offer, widest, taken, visit, visits, roundOf}
-use Rattle.matching.specs.Held.{Ready}
+use Rattle.matching.specs.Contracts.{RoundReady}
 
 all-ext : (n : ℕ) (p q : ℕ → Bool) → ((k : ℕ) → k < n → p k ≡ q k) → allTo n p ≡ allTo n q
 unfolding allTo
@@ -86,7 +83,7 @@ cost-identity cs c =
     (λ t. sumTo-none (length cs) _ (λ v l. rw (ne-eqb c v (λ e. omega (arith, ltb-false c (length cs) t)))) ∙ sym (getD-past cs c (ltb-false c _ t)))
 
 -- a rung's lists with its clusters' costs
-module _ {G : Graph} {row : List ℕ} {g : ℕ} {froms tos ws : List ℕ} (R : Ready G row g) (C : Coarse G row g froms tos ws)
+module _ {G : Graph} {row : List ℕ} {g : ℕ} {froms tos ws : List ℕ} (R : RoundReady G row g) (C : Coarse G row g froms tos ws)
     (cs : List ℕ) (len : length cs ≡ g) (costs : (c : ℕ) → getD cs c 0 ≡ partCost (G .costs) row c) where
   abbrev H : Graph
   H = graphOf cs froms tos ws
@@ -109,7 +106,7 @@ module _ {G : Graph} {row : List ℕ} {g : ℕ} {froms tos ws : List ℕ} (R : R
         let h = sumTo-member (vertices G) (λ x. when (eqb (getD row x 0) c) (getD (G .costs) x 0)) v lv in
         omega (arith, costs c, rw (eq-eqb (getD row v 0) c e) at h, R .proper .costly v lv)
 
-    pub ready-coarse : Ready H (identity g) g
+    pub ready-coarse : RoundReady H (identity g) g
     unfolding identity
     ready-coarse =
         let n : length (identity g) ≡ g = length-listTo _ _ in

@@ -15,15 +15,14 @@ use Rattle.graph.specs.Graph.{Graph, graphOf, Arcs, arcs, joining, seen, Inside
 use Rattle.graph.specs.Rows.{clusters}
 use Rattle.graph.proofs.Edges.{row-inside, joining-is}
 use Rattle.topology.specs.Level.{levelsOf}
-use Rattle.topology.specs.Order.{orderOf}
+use Rattle.topology.specs.Order.{orderOf, InOrder}
+use Rattle.topology.proofs.Levels.{over-level}
 use Rattle.topology.proofs.Orders.{order-all, order-below}
-use Rattle.levels.specs.Sweep.{Layered, Ordered}
-use Rattle.levels.proofs.Sweeps.{over-level}
 use Rattle.contraction.specs.Rules.{Round, Keeps}
 use Rattle.contraction.specs.Next.{mateOf}
-use Rattle.offers.specs.State.{haltsAt, offerOf, Widest}
+use Rattle.matching_scan.specs.State.{haltsAt, offerOf, Widest}
 use Rattle.matching.specs.Choice.{visit, visits, roundOf}
-use Rattle.matching.specs.Held.{Ready, Weights, Holds, Tall, Context, Paired, Stepped, Matched}
+use Rattle.matching.specs.Contracts.{RoundReady, ClusterCosts, Holds, Tall, Context, Paired, Stepped, Matched}
 use Rattle.matching.proofs.Choices.{Kept, none-kept, visit-kept}
 use Rattle.matching.proofs.Visits.{visit-mated, visit-stopped, visit-keeps, visit-takes}
 use Rattle.matching.proofs.Holding.{holds-none, holds-pair, visits-more}
@@ -76,18 +75,13 @@ module _ (A : Arcs) (starts ends widths levels costs mates tos blocked : List �
         tall = record { mates-tall = length-set (set mates u to) to u ∙ length-set mates u to ∙ T .mates-tall; tos-tall = length-set tos to 1 ∙ T .tos-tall; blocked-tall = P .blocks .tall }
 
 -- the lists of a rung name its clusters themselves
-module _ {costs starts ends widths : List ℕ} {g : ℕ} (R : Ready (graphOf costs starts ends widths) (identity g) g) where
+module _ {costs starts ends widths : List ℕ} {g : ℕ} (R : RoundReady (graphOf costs starts ends widths) (identity g) g) where
   pub ready-joining : arcs (identity g) starts ends ≡ joining starts ends
   unfolding identity
   ready-joining =
       let n : length (identity g) ≡ g = length-listTo _ _ in
       joining-is g starts ends (λ j l. omega (arith, R .row-of .whole, R .proper .formed .start-in j l))
       (λ j l. omega (arith, R .row-of .whole, R .proper .formed .end-in j (omega (arith, R .proper .formed .same-ends))))
-
-  pub ready-layered : Layered (joining starts ends) g
-  ready-layered =
-      let Y : Layered (arcs (identity g) starts ends) g = record { inside = row-inside (R .proper .formed) (R .row-of); acyclic = R .acyclic; small = R .small } in
-      rw ready-joining at Y
 
 round-at : (G : Graph) (bound : ℕ) (row : List ℕ) (g : ℕ) → g ≡ clusters row → roundOf G bound row ≡ visits G row (levelsOf (seen G row) g) g bound [] (orderOf (seen G row) g)
 unfolding roundOf
@@ -120,13 +114,13 @@ module _ (G : Graph) (row levels costs : List ℕ) (g bound : ℕ) (C : Context 
         counts = refl;
       })
 
-  order-is : {order : List ℕ} → Ordered A g order → (i : ℕ) → i < g → getD order i 0 ≡ getD (orderOf (seen G row) g) i 0
+  order-is : {order : List ℕ} → InOrder A g order → (i : ℕ) → i < g → getD order i 0 ≡ getD (orderOf (seen G row) g) i 0
   order-is O = rw (← same) at (O .is)
 
-  pub order-low : {i u : ℕ} {order : List ℕ} → Ordered A g order → i < g → u ≡ getD order i 0 → u < 512
+  pub order-low : {i u : ℕ} {order : List ℕ} → InOrder A g order → i < g → u ≡ getD order i 0 → u < 512
   order-low {i} O l e = let h = order-below (seen G row) g inside i (omega (arith, all)) in omega (arith, order-is O i l, C .ready .small)
 
-  pub rounding-turn : {i u r count : ℕ} {order mates tos blocked mates′ tos′ blocked′ : List ℕ} → Ordered A g order → i < g → u ≡ getD order i 0
+  pub rounding-turn : {i u r count : ℕ} {order mates tos blocked mates′ tos′ blocked′ : List ℕ} → InOrder A g order → i < g → u ≡ getD order i 0
       → Rounding G row levels g bound i mates tos blocked count
       → Stepped A (G .starts) (G .ends) (G .widths) levels costs bound u mates tos blocked mates′ tos′ blocked′ r
       → Rounding G row levels g bound (i + 1) mates′ tos′ blocked′ (count + r)
@@ -156,7 +150,7 @@ module _ (G : Graph) (row levels costs : List ℕ) (g bound : ℕ) (C : Context 
       }
 
 -- the arrays that the round has made
-module _ {weights starts ends widths : List ℕ} {g : ℕ} (R : Ready (graphOf (take g weights) starts ends widths) (identity g) g) (W : Weights g weights) where
+module _ {weights starts ends widths : List ℕ} {g : ℕ} (R : RoundReady (graphOf (take g weights) starts ends widths) (identity g) g) (W : ClusterCosts g weights) where
   costs-are : (c : ℕ) → getD weights c 0 ≡ partCost (take g weights) (identity g) c
   costs-are c =
       let n : length (take g weights) ≡ g = length-take-le g weights (omega (arith, W .tall, R .small)) in

@@ -22,8 +22,8 @@ use Rattle.contraction.specs.Tests.{fits}
 use Rattle.contraction.specs.Next.{mateOf}
 use Rattle.matching.specs.Choice.{mayTake, offer, widest, taken, visit}
 use Rattle.graph.specs.Coarse.{sent}
-use Rattle.offers.specs.State.{leaves, nextIn, halts, haltsAt, offerIn, offerOf, Widest}
-use Rattle.matching.specs.Held.{anyOf, Holds, Context}
+use Rattle.matching_scan.specs.State.{leaves, nextIn, halts, haltsAt, offerIn, offerOf, Widest}
+use Rattle.matching.specs.Contracts.{anyOf, Holds, Context}
 use Rattle.matching.proofs.Fits.{any-of-e, any-of-none, sent-width, all-only, only-all, Free, fits-free, free-fits}
 
 -- without an offer the pairs stay, and with one they get the lowest of the widest

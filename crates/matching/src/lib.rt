@@ -2,13 +2,13 @@
 ghost use mathlib.Core.Path.{_≡_};
 ghost use Prim.Native.Nat.{ℕ, _+_, _<_, _≤_};
 ghost use lib.ListN.{length, getD, take};
-ghost use Rattle.folds.specs.Fold.{listTo, over, zeros};
+ghost use Rattle.folds.specs.Fold.{listTo, over, zeros, mostCost};
 ghost use Rattle.graph.specs.Graph.{graphOf, identity, joining};
 ghost use Rattle.graph.specs.Links.{Linked, Ended, leave};
+ghost use Rattle.topology.specs.Order.{InOrder};
 ghost use Rattle.topology.specs.Level.{levelsOf};
-ghost use Rattle.levels.specs.Sweep.{Ordered};
-ghost use Rattle.offers.specs.State.{Simple, offerOf, Widest};
-ghost use Rattle.matching.specs.Held.{Ready, Weights, Tall, Paired, Stepped, Matched};
+ghost use Rattle.matching_scan.specs.State.{Simple, offerOf, Widest};
+ghost use Rattle.matching.specs.Contracts.{RoundReady, ClusterCosts, Tall, Paired, Stepped, Matched};
 
 // The widest offer to u, of the lowest cluster that makes it.
 fn best_for(
@@ -23,14 +23,14 @@ fn best_for(
     costs: &[u32; 512],
     bound: u32,
     u: usize,
-) -> offers::Best
+) -> matching_scan::Best
     requires { ⌜ Simple (now starts) (now ends) (now widths) ⌝ }
     requires { ⌜ Linked (leave (joining (now starts) (now ends))) (length (now starts)) (now head) (now next) ⌝ }
-    requires { ⌜ (u < 512) × ((c : ℕ) → getD (now costs) c 0 ≤ 33553920) ⌝ }
+    requires { ⌜ (u < 512) × ((c : ℕ) → getD (now costs) c 0 ≤ mostCost) ⌝ }
     ensures { λ r. ⌜ Widest (joining (now (starts .entry)) (now (ends .entry))) (offerOf (joining (now (starts .entry)) (now (ends .entry))) (now (widths .entry)) (now (levels .entry)) (now (mates .entry)) (now (blocked .entry)) (now (costs .entry)) bound u) u (length (now (starts .entry))) (r .width) (r .to) ⌝ }
 {
-    let total = offers::total(starts, ends, widths, head, next, u);
-    offers::choose(
+    let total = matching_scan::total(starts, ends, widths, head, next, u);
+    matching_scan::choose(
         starts,
         ends,
         widths,
@@ -65,7 +65,7 @@ fn join(
     requires { ⌜ Tall (now mates) (now tos) (now blocked) ⌝ }
     ensures { λ _. ⌜ Paired (joining (now (starts .entry)) (now (ends .entry))) (now (levels .entry)) u v (now (mates .entry)) (now (tos .entry)) (now (blocked .entry)) (now (mates .exit)) (now (tos .exit)) (now (blocked .exit)) ⌝ }
 {
-    offers::block(starts, ends, head, next, levels, u, blocked);
+    matching_scan::block(starts, ends, head, next, levels, u, blocked);
     mates[u] = v as u16;
     mates[v] = u as u16;
     tos[v] = 1;
@@ -88,14 +88,14 @@ fn visit(
 ) -> usize
     requires { ⌜ Simple (now starts) (now ends) (now widths) ⌝ }
     requires { ⌜ Linked (leave (joining (now starts) (now ends))) (length (now starts)) (now head) (now next) ⌝ }
-    requires { ⌜ (u < 512) × ((c : ℕ) → getD (now costs) c 0 ≤ 33553920) ⌝ }
+    requires { ⌜ (u < 512) × ((c : ℕ) → getD (now costs) c 0 ≤ mostCost) ⌝ }
     requires { ⌜ Tall (now mates) (now tos) (now blocked) ⌝ }
     ensures { λ r. ⌜ Stepped (joining (now (starts .entry)) (now (ends .entry))) (now (starts .entry)) (now (ends .entry)) (now (widths .entry)) (now (levels .entry)) (now (costs .entry)) bound u (now (mates .entry)) (now (tos .entry)) (now (blocked .entry)) (now (mates .exit)) (now (tos .exit)) (now (blocked .exit)) r ⌝ }
 {
     if folds::wide(mates[u]) != u {
         return 0;
     }
-    if offers::stops(starts, ends, head, next, levels, tos, u) {
+    if matching_scan::stops(starts, ends, head, next, levels, tos, u) {
         return 0;
     }
     let best = best_for(
@@ -131,8 +131,9 @@ fn singles(mates: &mut [u16; 512])
     }
 }
 
-// Visits the clusters in topological order, by their levels. Answers how many pairs were made.
-fn pairs(
+// One round on the lists of a rung with g clusters, which are visited in topological order, by their levels: the mate of each cluster, its own number
+// where it has none. Answers how many pairs there are.
+pub fn round(
     costs: &[u32; 512],
     starts: &[u16],
     ends: &[u16],
@@ -145,10 +146,10 @@ fn pairs(
     bound: u32,
     mates: &mut [u16; 512],
 ) -> usize
-    requires { ⌜ Ready (graphOf (take g (now costs)) (now starts) (now ends) (now widths)) (identity g) g ⌝ }
-    requires { ⌜ Weights g (now costs) × Simple (now starts) (now ends) (now widths) ⌝ }
+    requires { ⌜ RoundReady (graphOf (take g (now costs)) (now starts) (now ends) (now widths)) (identity g) g ⌝ }
+    requires { ⌜ ClusterCosts g (now costs) × Simple (now starts) (now ends) (now widths) ⌝ }
     requires { ⌜ Linked (leave (joining (now starts) (now ends))) (length (now starts)) (now head) (now next) ⌝ }
-    requires { ⌜ Ordered (joining (now starts) (now ends)) g (now order) ⌝ }
+    requires { ⌜ InOrder (joining (now starts) (now ends)) g (now order) ⌝ }
     requires { ⌜ now levels ≡ over (levelsOf (joining (now starts) (now ends)) g) (zeros 512) ⌝ }
     ensures { λ r. ⌜ Matched (graphOf (take g (now (costs .entry))) (now (starts .entry)) (now (ends .entry)) (now (widths .entry))) bound (identity g) (now (mates .exit)) r ⌝ }
 {
@@ -177,40 +178,4 @@ fn pairs(
         i += 1;
     }
     count
-}
-
-// One round on the lists of a rung with g clusters: the mate of each cluster, its own number where it has none. Answers how many pairs there are.
-pub fn round(
-    costs: &[u32; 512],
-    starts: &[u16],
-    ends: &[u16],
-    widths: &[u32],
-    head: &[u16; 513],
-    next: &[u16; 1024],
-    order: &[u16],
-    g: usize,
-    bound: u32,
-    mates: &mut [u16; 512],
-) -> usize
-    requires { ⌜ Ready (graphOf (take g (now costs)) (now starts) (now ends) (now widths)) (identity g) g ⌝ }
-    requires { ⌜ Weights g (now costs) × Simple (now starts) (now ends) (now widths) ⌝ }
-    requires { ⌜ Linked (leave (joining (now starts) (now ends))) (length (now starts)) (now head) (now next) ⌝ }
-    requires { ⌜ Ordered (joining (now starts) (now ends)) g (now order) ⌝ }
-    ensures { λ r. ⌜ Matched (graphOf (take g (now (costs .entry))) (now (starts .entry)) (now (ends .entry)) (now (widths .entry))) bound (identity g) (now (mates .exit)) r ⌝ }
-{
-    let mut levels = [0; 512];
-    levels::sweep(starts, ends, head, next, order, g, &mut levels);
-    pairs(
-        costs,
-        starts,
-        ends,
-        widths,
-        head,
-        next,
-        order,
-        &levels,
-        g,
-        bound,
-        mates,
-    )
 }

@@ -6,7 +6,7 @@ use lib.ListN.{take}
 use Rattle.folds.specs.Fold.{sumTo, maxTo, firstTo, anyTo, allTo, listTo, turns, zeros}
 use Rattle.folds.proofs.Cases.{by, both}
 use Rattle.graph.specs.Walk.{Acyclic}
-use Rattle.graph.specs.Graph.{Graph, graphOf, vertices, identity, seen, edge, Edge, widthOf, costIn, partCost, Formed, Inside}
+use Rattle.graph.specs.Graph.{Graph, vertices, identity, seen, edge, Edge, widthOf, costIn, partCost, Formed, Inside}
 use Rattle.graph.specs.Rows.{clusters}
 use Rattle.graph.proofs.Edges.{row-inside}
 use Rattle.topology.specs.Level.{rise, levelsAfter, levelsOf}
@@ -14,6 +14,7 @@ use Rattle.topology.specs.Order.{waits, ready, orNone, orderFrom, orderOf}
 use Rattle.contraction.specs.Rules.{pair, Round, Keeps}
 use Rattle.contraction.specs.Tests.{allOf, next, onlySuccessor, onlyPredecessor, ruleOne, ruleTwo, fits}
 use Rattle.contraction.specs.Next.{nextRow}
+use Rattle.contraction.proofs.Crossed.{case3}
 use Rattle.contraction.specs.Rounds.{rowAfter, AllKeep}
 use Rattle.contraction.proofs.Tests.{keeps-none, keeps-more}
 use Rattle.contraction.proofs.Rounds.{Sound, bottom-sound, next-sound, rounds-acyclic}
@@ -55,9 +56,6 @@ other-acyclic G F ac bound f i =
     rounds-acyclic G F ac (roundsHigh G bound f (identity (vertices G))) (rounds-keep G bound f (identity (vertices G)) F (bottom-sound G ac)) i
 
 -- on case 3 of document 01 the two pick different pairs
-unfoldable pub case3 : Graph
-case3 = graphOf (1 ∷ 1 ∷ 1 ∷ 1 ∷ []) (0 ∷ 0 ∷ 1 ∷ 1 ∷ []) (2 ∷ 3 ∷ 2 ∷ 3 ∷ []) (1 ∷ 1 ∷ 1 ∷ 1 ∷ [])
-
 pub picks-low : roundOf case3 4 (identity 4) ≡ pair 0 2 ∷ []
 unfolding case3 identity edge widthOf costIn partCost sumTo maxTo firstTo anyTo allTo listTo zeros clusters rise levelsAfter levelsOf waits ready orNone orderFrom orderOf allOf next onlySuccessor onlyPredecessor ruleOne ruleTwo fits mayTake offer widest taken visit visits roundOf
 picks-low = refl

@@ -35,15 +35,15 @@ use Rattle.inspection.proofs.Tables.{fine-passed}
 use Rattle.contraction.specs.Rules.{Round}
 use Rattle.contraction.specs.Rounds.{rowAfter, AllKeep}
 use Rattle.contraction.proofs.Rounds.{rounds-acyclic}
-use Rattle.hierarchy.specs.Climb.{keptOf, rowOf, ladderAfter}
+use Rattle.hierarchy.specs.Rounds.{keptOf, rowOf, rowsAfter}
 use Rattle.hierarchy.specs.Claim.{OwnRounds}
 use Rattle.hierarchy.proofs.Own.{own-rounds, rows-hierarchy}
 use Rattle.initial.specs.Initial.{Chosen, found, uncut, LeastCut, Divides}
 use Rattle.initial.proofs.Claims.{initial-least, none-exactly, initial-good}
-use Rattle.moves.specs.Entries.{stateOf, Entry, down, after, AllAllowed, cutAt, gain, gains, GoodAt}
-use Rattle.moves.specs.Pass.{Tally, refined}
-use Rattle.moves.specs.Own.{ownMoves, Took}
-use Rattle.moves.proofs.Claims.{moves-law, own-moves, few-moves, refined-good}
+use Rattle.refinement.specs.Entries.{stateOf, Entry, down, after, AllAllowed, cutAt, gain, gains, GoodAt}
+use Rattle.refinement.specs.Pass.{Tally, refined}
+use Rattle.refinement.specs.Own.{ownMoves, Took}
+use Rattle.refinement.proofs.Claims.{moves-law, own-moves, few-moves, refined-good}
 use Rattle.partition.specs.Phases.{Result, nothing, parted, firstOf, refinedFrom, resultOf}
 use Rattle.partition.specs.Split.{roomFor, verdictOf, splitOf, tableAfter, rowsLeft}
 use Rattle.partition.specs.Claim.{Answers, Uncuttable, Ordered}
@@ -60,8 +60,8 @@ module _ (G : Graph) (k bound : ℕ) (valid : Valid G k bound) where
   pub split-rounds : (rs : List Round) → AllKeep G (identity (vertices G)) rs → (i : ℕ) → Acyclic (Edge (seen G (rowAfter (identity (vertices G)) (take i rs))))
   split-rounds = rounds-acyclic G (sound .proper .formed) (sound .acyclic)
 
-  -- the split's own rounds are such a list: it leaves the rows that the split leaves
-  pub split-own-rounds : (rows : List ℕ) → (rs : List Round) × OwnRounds G k bound (ladderAfter G k bound rows) rs
+  -- the split's own rounds are such a list: it leaves the ladder that the split leaves
+  pub split-own-rounds : (rows : List ℕ) → (rs : List Round) × OwnRounds G k bound (rowsAfter G k bound rows) rs
   split-own-rounds = own-rounds G k bound (sound .proper .formed) (sound .acyclic)
 
   -- what the phases gave, taken apart
@@ -160,11 +160,11 @@ module _ (G : Graph) (k bound : ℕ) (valid : Valid G k bound) where
 
     answers-parted : {rung : ℕ} {first : List ℕ} {tally : Tally} → resultOf G k bound ≡ parted rung first tally → Answers most G k bound table rows rung first tally
     unfolding splitOf tableAfter rowsLeft
-    answers-parted e = record { result = e; answer = rw (passes, e); table-is = rw (passes, e); ladder-is = rw passes }
+    answers-parted e = record { result = e; answer = rw (passes, e); table-is = rw (passes, e); rows-is = rw passes }
 
     answers-nothing : resultOf G k bound ≡ nothing → Uncuttable most G k bound table rows
     unfolding splitOf tableAfter rowsLeft
-    answers-nothing e = record { result = e; answer = rw (passes, e); table-is = rw (passes, e); ladder-is = rw passes }
+    answers-nothing e = record { result = e; answer = rw (passes, e); table-is = rw (passes, e); rows-is = rw passes }
 
     pub split-answers : Uncuttable most G k bound table rows ⊎ ((rung : ℕ) × (first : List ℕ) × (tally : Tally) × Answers most G k bound table rows rung first tally)
     split-answers = go (resultOf G k bound) refl

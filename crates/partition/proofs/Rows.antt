@@ -5,10 +5,10 @@ use mathlib.Core.List.{List}
 use native.Mathlib.Omega.{arith}
 use Rattle.graph.specs.Graph.{Graph}
 use Rattle.graph.specs.Table.{Good}
-use Rattle.division.specs.Division.{Pick}
+use Rattle.division_table.specs.Division.{Pick}
 use Rattle.initial.specs.Initial.{highest, initialOf, chosenOf}
-use Rattle.moves.specs.Pass.{Tally, tallyOf, refinedBelow, refined}
-use Rattle.moves.specs.Entries.{stateOf, GoodAt}
+use Rattle.refinement.specs.Pass.{Tally, tallyOf, refinedBelow, refined}
+use Rattle.refinement.specs.Entries.{stateOf, GoodAt}
 
 highest-ext : (f g : ℕ → Pick (List ℕ)) (n : ℕ) → ((r : ℕ) → r < n → f r ≡ g r) → highest f n ≡ highest g n
 unfolding highest

@@ -22,31 +22,32 @@ use Rattle.graph.proofs.Coarse.{lower-stored}
 use Rattle.graph.specs.Rows.{Hierarchy}
 use Rattle.validity.specs.Cause.{refusal}
 use Rattle.validity.specs.Check.{mostVertices, checked, Valid}
-use Rattle.validity.specs.Fit.{OrderLeft}
+use Rattle.validity.specs.Contracts.{OrderLeft}
 use Rattle.validity.specs.Sound.{Sound}
 use Rattle.validity.specs.declared.Cause.{Cause}
 use Rattle.validity.specs.declared.Verdict.{Verdict}
 use Rattle.validity.specs.declared.Verdict.the-variants.{Passed, Refused}
 use Rattle.validity.proofs.Passed.{passed-valid, valid-sound}
-use Rattle.hierarchy.specs.Climb.{rowsOf, keptOf, rowOf, flat, ladderAfter}
-use Rattle.hierarchy.specs.Built.{rowAt, Carried, Built, Buildable}
+use Rattle.hierarchy.specs.Rounds.{rowsOf, keptOf, rowOf, flat, rowsAfter}
+use Rattle.hierarchy.specs.Contracts.{rowAt, Carried, Built, Buildable}
 use Rattle.hierarchy.proofs.Flat.{length-flat}
-use Rattle.hierarchy.proofs.Own.{rows-hierarchy, hierarchy-ext, row-sound, ladder-row, kept-few}
+use Rattle.hierarchy.proofs.Own.{rows-hierarchy, hierarchy-ext, row-sound, stored-row, kept-few}
 use Rattle.initial.specs.Initial.{found, uncut, chosenOf}
-use Rattle.initial.specs.Answers.{Chooses, Lent, Ordered}
+use Rattle.initial.specs.Contracts.{Chooses, Borrowed, OrdersStored}
 use Rattle.graph.specs.Rows.{rowsIn}
 use Rattle.initial.specs.declared.Initial.{Initial}
 use Rattle.initial.specs.declared.Initial.the-variants.{At}
 use Rattle.initial.specs.declared.Initial.the-variants as initial
 use Rattle.initial.proofs.Claims.{initial-least, initial-good}
 use Rattle.initial.proofs.Chooses.{chooses-at, chooses-uncut}
-use Rattle.moves.specs.Entries.{stateOf, GoodAt}
-use Rattle.moves.specs.Pass.{refined}
-use Rattle.moves.proofs.Claims.{refined-good}
+use Rattle.refinement.specs.Entries.{stateOf, GoodAt}
+use Rattle.refinement.specs.Pass.{refined}
+use Rattle.refinement.proofs.Claims.{refined-good}
 use Rattle.refine.specs.Down.{Descends, Refined}
 use Rattle.refine.specs.declared.Outcome.{Outcome}
 use Rattle.partition.specs.Phases.{Result, nothing, parted, firstOf, resultOf}
-use Rattle.partition.specs.Split.{answerBy, innerOf, valuesOf, roomFor, verdictOf, splitOf, tableAfter, rowsLeft, Works}
+use Rattle.partition.specs.Split.{valuesOf, roomFor, verdictOf, splitOf, tableAfter, rowsLeft}
+use Rattle.partition.specs.Contracts.{answerBy, innerOf, Works}
 use Rattle.partition.specs.declared.Inner.{Inner}
 use Rattle.partition.specs.declared.Inner.the-variants.{Found, Nothing}
 use Rattle.partition.proofs.Rows.{chosen-ext, refined-ext, good-start}
@@ -61,7 +62,7 @@ sound-builds S = record { proper = S .proper; apart = S .apart; once = S .once; 
 
 -- the result, from what the phases left
 works-found : (G : Graph) (k bound : ℕ) {table rows rows′ table′ table″ first : List ℕ} {rounds rung c : ℕ} {out : Outcome}
-    → rounds ≡ keptOf G k bound → rows′ ≡ ladderAfter G k bound rows → firstOf G k bound ≡ found rung first c
+    → rounds ≡ keptOf G k bound → rows′ ≡ rowsAfter G k bound rows → firstOf G k bound ≡ found rung first c
     → refined G k bound (rowsIn rows′ (vertices G)) rung first ≡ refined G k bound (rowOf G k bound) rung first
     → take (vertices G) table′ ≡ first → table′ ≡ over first table
     → length (refined G k bound (rowsIn rows′ (vertices G)) rung first .parts) ≡ length first
@@ -71,7 +72,7 @@ works-found G k bound {table = table} {first = first} er el q s front et w R =
     record {
       is = rw (q, ← s, R .cut-is, R .moves-is, front, er);
       table-is = rw (q, ← s, R .table-is, front, et) (over-over _ first table w);
-      ladder-is = el;
+      rows-is = el;
     }
 
 module _ (G : Graph) (k bound : ℕ) (S : Sound G k bound) where
@@ -88,11 +89,11 @@ module _ (G : Graph) (k bound : ℕ) (S : Sound G k bound) where
   -- after the first phase
   module _ (table rows rows′ : List ℕ) (rounds : ℕ) (B : Built G k bound rows rows′ rounds) (lt : vertices G ≤ length table) (ll : 9 * vertices G ≤ length rows) where
     same-rows : (r : ℕ) → r ≤ rounds → rowOf G k bound r ≡ rowsIn rows′ (vertices G) r
-    same-rows r l = rw (B .ladder-is) (sym (ladder-row G k bound (S .proper .formed) (S .acyclic) rows r (omega (arith, B .kept-is))))
+    same-rows r l = rw (B .rows-is) (sym (stored-row G k bound (S .proper .formed) (S .acyclic) rows r (omega (arith, B .kept-is))))
 
     tall : length rows′ ≡ length rows
-    unfolding ladderAfter
-    tall = ap length (B .ladder-is) ∙ length-over (flat (rowsOf G k bound)) rows (omega (arith, rows-length, few, mul-le-mul-right (vertices G) (room few)))
+    unfolding rowsAfter
+    tall = ap length (B .rows-is) ∙ length-over (flat (rowsOf G k bound)) rows (omega (arith, rows-length, few, mul-le-mul-right (vertices G) (room few)))
       where
         room : keptOf G k bound ≤ 8 → suc (keptOf G k bound) ≤ 9
         room h = omega arith
@@ -115,10 +116,10 @@ module _ (G : Graph) (k bound : ℕ) (S : Sound G k bound) where
     choose-hierarchy = part-hierarchy rounds (omega arith)
 
     -- what was carried, as the second phase asks for it
-    pub choose-lent : {froms tos widths sizes orders : List ℕ} → Carried G (rowAt G rows′) rounds froms tos widths sizes orders → Lent (vertices G) k rounds rows′ sizes table
+    pub choose-lent : {froms tos widths sizes orders : List ℕ} → Carried G (rowAt G rows′) rounds froms tos widths sizes orders → Borrowed (vertices G) k rounds rows′ sizes table
     choose-lent D = record { parts = (S .some, S .few); few = omega (arith, few, B .kept-is); nine = D .nine; long = held rounds (omega arith); room = lt }
 
-    pub choose-orders : {froms tos widths sizes orders : List ℕ} → Carried G (rowAt G rows′) rounds froms tos widths sizes orders → Ordered G (rowsIn rows′ (vertices G)) rounds orders
+    pub choose-orders : {froms tos widths sizes orders : List ℕ} → Carried G (rowAt G rows′) rounds froms tos widths sizes orders → OrdersStored G (rowsIn rows′ (vertices G)) rounds orders
     choose-orders D = record { long = D .long; is = D .order }
 
     -- after the second
@@ -132,7 +133,7 @@ module _ (G : Graph) (k bound : ℕ) (S : Sound G k bound) where
       work-none e =
           let (q, t) = chooses-uncut C e in
           let r : firstOf G k bound ≡ uncut = sym first-is ∙ q in
-          record { is = rw r; table-is = rw r t; ladder-is = B .ladder-is }
+          record { is = rw r; table-is = rw r t; rows-is = B .rows-is }
 
       module _ {rung c : ℕ} (e : a ≡ At rung c) where
         at : (t : List ℕ) × (chosenOf G k bound (rowsIn rows′ (vertices G)) rounds ≡ found rung t c) × (table′ ≡ over t table)
@@ -167,7 +168,7 @@ module _ (G : Graph) (k bound : ℕ) (S : Sound G k bound) where
         pub work-found : {table″ : List ℕ} {out : Outcome} → Refined G k bound rows′ rung table′ table″ out
             → Works G k bound table rows table″ rows′ (Found (record { cut = out .cut; rounds = rounds; rung = rung; moves = out .moves }))
         work-found R =
-            works-found G k bound (B .kept-is) (B .ladder-is) (sym first-is ∙ at .1) (sym (refined-ext G k bound rung (at .0) (λ r l. same-rows r (omega (arith, below)))))
+            works-found G k bound (B .kept-is) (B .rows-is) (sym first-is ∙ at .1) (sym (refined-ext G k bound rung (at .0) (λ r l. same-rows r (omega (arith, below)))))
             front (at .2) (refined-good G (S .proper) k bound (rowsIn rows′ (vertices G)) rung (part-hierarchy rung below) rung (at .0) start .table .whole ∙ sym (start .table .whole)) R
 
 -- nine rows fit, without forming 9 × n
@@ -192,7 +193,7 @@ module _ (most : ℕ) (within : most ≤ mostVertices) (G : Graph) (k bound : �
     sound = valid-sound G k bound (valid .0)
 
     -- the order that the checks left
-    pub ordered : {order order′ head next : List ℕ} → length order ≡ 512 → OrderLeft v (vertices G) (G .starts) (G .ends) order order′ head next
+    pub ordered : {order order′ levelled head next : List ℕ} → length order ≡ 512 → OrderLeft v (vertices G) (G .starts) (G .ends) order order′ levelled head next
         → (take (vertices G) order′ ≡ orderOf (seen G (identity (vertices G))) (vertices G)) × (length order′ ≡ 512)
     ordered {order} t O =
         let o = orderOf (seen G (identity (vertices G))) (vertices G) in
@@ -208,7 +209,7 @@ module _ (most : ℕ) (within : most ≤ mostVertices) (G : Graph) (k bound : �
     pub worked : {table′ rows′ : List ℕ} {r : Inner} → Works G k bound table rows table′ rows′ r
         → (answerBy r ≡ splitOf most G k bound table rows) × (table′ ≡ tableAfter most G k bound table rows) × (rows′ ≡ rowsLeft most G k bound table rows)
     unfolding splitOf tableAfter rowsLeft verdictOf roomFor
-    worked {r = r} W = rw (← er, ← ev, passed) (ap answerBy (W .is) ∙ same (resultOf G k bound), W .table-is, W .ladder-is)
+    worked {r = r} W = rw (← er, ← ev, passed) (ap answerBy (W .is) ∙ same (resultOf G k bound), W .table-is, W .rows-is)
       where
         same : (x : Result) → answerBy (innerOf G (keptOf G k bound) x) ≡ valuesOf G (keptOf G k bound) x
         same nothing = refl

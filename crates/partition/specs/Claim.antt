@@ -8,8 +8,8 @@ use Rattle.graph.specs.Graph.{Graph, Arcs, Edge}
 use Rattle.topology.specs.Order.{orderOf, placeIn}
 use Rattle.validity.specs.Cause.{refusal, answered}
 use Rattle.validity.specs.declared.Cause.the-variants.{Uncut}
-use Rattle.hierarchy.specs.Climb.{keptOf, ladderAfter}
-use Rattle.moves.specs.Pass.{Tally}
+use Rattle.hierarchy.specs.Rounds.{keptOf, rowsAfter}
+use Rattle.refinement.specs.Pass.{Tally}
 use Rattle.partition.specs.Phases.{nothing, parted, resultOf}
 use Rattle.partition.specs.Split.{figures, summaryOf, splitOf, tableAfter, rowsLeft}
 
@@ -18,14 +18,14 @@ pub record Answers (most : ℕ) (G : Graph) (k bound : ℕ) (table rows : List �
   pub result : resultOf G k bound ≡ parted rung first tally
   pub answer : splitOf most G k bound table rows ≡ answered (figures (summaryOf G (keptOf G k bound) rung tally))
   pub table-is : tableAfter most G k bound table rows ≡ over (tally .parts) table
-  pub ladder-is : rowsLeft most G k bound table rows ≡ ladderAfter G k bound rows
+  pub rows-is : rowsLeft most G k bound table rows ≡ rowsAfter G k bound rows
 
--- and the refusal 9: the stage table is left, and the rows holds its rows
+-- and the refusal 9: the stage table is left, and the ladder holds its rows
 pub record Uncuttable (most : ℕ) (G : Graph) (k bound : ℕ) (table rows : List ℕ) : Type 0 where
   pub result : resultOf G k bound ≡ nothing
   pub answer : splitOf most G k bound table rows ≡ refusal Uncut 0
   pub table-is : tableAfter most G k bound table rows ≡ table
-  pub ladder-is : rowsLeft most G k bound table rows ≡ ladderAfter G k bound rows
+  pub rows-is : rowsLeft most G k bound table rows ≡ rowsAfter G k bound rows
 
 -- document 01, play order: it takes all g groups, each at its place, and every wire between two of them goes from an earlier place to a later one
 pub record Ordered (A : Arcs) (g : ℕ) : Type 0 where

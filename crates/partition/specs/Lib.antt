@@ -1,3 +1,4 @@
 pub mod Phases
 pub mod Split
 pub mod Claim
+pub mod Contracts

@@ -2,9 +2,9 @@
 use Prim.Native.Nat.{ℕ}
 use mathlib.Core.List.{List}
 use Rattle.graph.specs.Graph.{Graph}
-use Rattle.hierarchy.specs.Climb.{keptOf, rowOf}
+use Rattle.hierarchy.specs.Rounds.{keptOf, rowOf}
 use Rattle.initial.specs.Initial.{Chosen, found, uncut, chosenOf}
-use Rattle.moves.specs.Pass.{Tally, refined}
+use Rattle.refinement.specs.Pass.{Tally, refined}
 
 -- no rung can be cut; or the rung that was cut, the first cut's table, and the table and the moves that refinement leaves on rung 0
 pub data Result : Type 0 where

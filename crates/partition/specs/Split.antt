@@ -1,6 +1,5 @@
 -- The public split: its answer, and what it leaves of the tables it is lent.
 use Prim.Native.Nat.{ℕ, _*_}
-use mathlib.Core.Path.{_≡_}
 use mathlib.Core.Bool.{Bool, _&&_}
 use mathlib.Core.List.{List, [], _∷_}
 use lib.Dec.{leb}
@@ -11,14 +10,12 @@ use Rattle.validity.specs.Cause.{Answer, refusal, answered, ifPassed}
 use Rattle.validity.specs.Check.{checked}
 use Rattle.validity.specs.declared.Cause.the-variants.{Uncut}
 use Rattle.validity.specs.declared.Verdict.{Verdict}
-use Rattle.hierarchy.specs.Climb.{keptOf, ladderAfter}
+use Rattle.hierarchy.specs.Rounds.{keptOf, rowsAfter}
 use Rattle.partition.specs.Phases.{Result, nothing, parted, resultOf}
 use Rattle.partition.specs.declared.Partitioned.{Partitioned}
 use Rattle.partition.specs.declared.Partitioned.the-variants.{Parted, Failed}
-use Rattle.moves.specs.Pass.{Tally}
+use Rattle.refinement.specs.Pass.{Tally}
 use Rattle.partition.specs.declared.Summary.{Summary}
-use Rattle.partition.specs.declared.Inner.{Inner}
-use Rattle.partition.specs.declared.Inner.the-variants.{Found, Nothing}
 
 -- document 01's values of a split: the cut, the rounds kept, the rung that was cut and the number of moves
 abbrev pub figures : Summary → List ℕ
@@ -29,7 +26,7 @@ abbrev pub answerOf : Partitioned → Answer
 answerOf (Parted s) = answered (figures s)
 answerOf (Failed cause place) = refusal cause place
 
--- check 4: stage table under n, rows under 9 × n
+-- check 4: stage table under n, ladder under 9 × n
 unfoldable pub roomFor : ℕ → List ℕ → List ℕ → Bool
 roomFor n table rows = leb n (length table) && leb (9 * n) (length rows)
 
@@ -56,20 +53,6 @@ partsInto (parted rung first tally) table = over (tally .parts) table
 unfoldable pub tableAfter : ℕ → Graph → ℕ → ℕ → List ℕ → List ℕ → List ℕ
 tableAfter most G k bound table rows = ifPassed (verdictOf most G k bound table rows) (partsInto (resultOf G k bound) table) (λ cause place. table)
 
--- the rows afterwards: it holds its rows, also where no rung can be cut
+-- the ladder afterwards: it holds its rows, also where no rung can be cut
 unfoldable pub rowsLeft : ℕ → Graph → ℕ → ℕ → List ℕ → List ℕ → List ℕ
-rowsLeft most G k bound table rows = ifPassed (verdictOf most G k bound table rows) (ladderAfter G k bound rows) (λ cause place. rows)
-
--- the work below the checks, as code answers it
-abbrev pub innerOf : Graph → ℕ → Result → Inner
-innerOf G kept nothing = Nothing
-innerOf G kept (parted rung first tally) = Found (summaryOf G kept rung tally)
-
-abbrev pub answerBy : Inner → Answer
-answerBy (Found s) = answered (figures s)
-answerBy Nothing = refusal Uncut 0
-
-pub record Works (G : Graph) (k bound : ℕ) (table rows table′ rows′ : List ℕ) (r : Inner) : Type 0 where
-  pub is : r ≡ innerOf G (keptOf G k bound) (resultOf G k bound)
-  pub table-is : table′ ≡ partsInto (resultOf G k bound) table
-  pub ladder-is : rows′ ≡ ladderAfter G k bound rows
+rowsLeft most G k bound table rows = ifPassed (verdictOf most G k bound table rows) (rowsAfter G k bound rows) (λ cause place. rows)

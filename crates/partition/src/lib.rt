@@ -7,9 +7,12 @@ ghost use mathlib.Core.Bool.{_&&_};
 ghost use Rattle.graph.specs.Graph.{graphOf, identity, arcs, joining};
 ghost use Rattle.graph.specs.Links.{Linked, leave};
 ghost use Rattle.topology.specs.Order.{orderOf};
+ghost use Rattle.topology.specs.Level.{levelsOf};
+ghost use Rattle.folds.specs.Fold.{over, zeros};
 ghost use Rattle.validity.specs.Check.{mostVertices};
 ghost use Rattle.validity.specs.Sound.{Sound};
-ghost use Rattle.partition.specs.Split.{answerOf, splitOf, tableAfter, rowsLeft, Works};
+ghost use Rattle.partition.specs.Split.{answerOf, splitOf, tableAfter, rowsLeft};
+ghost use Rattle.partition.specs.Contracts.{Works};
 use initial::Initial;
 use validity::Cause;
 use validity::Verdict;
@@ -52,6 +55,7 @@ fn phases(
     k: usize,
     bound: u32,
     order: &[u16; 512],
+    levels: &mut [u16; 512],
     head: &mut [u16; 513],
     next: &mut [u16; 1024],
     table: &mut [u16],
@@ -66,6 +70,7 @@ fn phases(
     requires { ⌜ (9 * length (now starts) ≤ length (now froms)) × (9 * length (now starts) ≤ length (now tos)) × (9 * length (now starts) ≤ length (now wides)) × (9 * length (now costs) ≤ length (now orders)) ⌝ }
     requires { ⌜ (take (length (now costs)) (now order) ≡ orderOf (arcs (identity (length (now costs))) (now starts) (now ends)) (length (now costs))) × (length (now order) ≡ 512) ⌝ }
     requires { ⌜ Linked (leave (joining (now starts) (now ends))) (length (now starts)) (now head) (now next) ⌝ }
+    requires { ⌜ now levels ≡ over (levelsOf (arcs (identity (length (now costs))) (now starts) (now ends)) (length (now costs))) (zeros 512) ⌝ }
     ensures { λ r. ⌜ Works (graphOf (now (costs .entry)) (now (starts .entry)) (now (ends .entry)) (now (widths .entry))) k bound (now (table .entry)) (now (rows .entry)) (now (table .exit)) (now (rows .exit)) r ⌝ }
 {
     let mut sizes = [0; 9];
@@ -77,6 +82,7 @@ fn phases(
         k,
         bound,
         order,
+        levels,
         head,
         next,
         rows,
@@ -142,6 +148,7 @@ fn partition(
     k: usize,
     bound: u32,
     order: &[u16; 512],
+    levels: &mut [u16; 512],
     head: &mut [u16; 513],
     next: &mut [u16; 1024],
     table: &mut [u16],
@@ -151,6 +158,7 @@ fn partition(
     requires { ⌜ (length (now costs) ≤ length (now table)) × (9 * length (now costs) ≤ length (now rows)) ⌝ }
     requires { ⌜ (take (length (now costs)) (now order) ≡ orderOf (arcs (identity (length (now costs))) (now starts) (now ends)) (length (now costs))) × (length (now order) ≡ 512) ⌝ }
     requires { ⌜ Linked (leave (joining (now starts) (now ends))) (length (now starts)) (now head) (now next) ⌝ }
+    requires { ⌜ now levels ≡ over (levelsOf (arcs (identity (length (now costs))) (now starts) (now ends)) (length (now costs))) (zeros 512) ⌝ }
     ensures { λ r. ⌜ Works (graphOf (now (costs .entry)) (now (starts .entry)) (now (ends .entry)) (now (widths .entry))) k bound (now (table .entry)) (now (rows .entry)) (now (table .exit)) (now (rows .exit)) r ⌝ }
 {
     let mut orders = [0; 4608];
@@ -167,6 +175,7 @@ fn partition(
             k,
             bound,
             order,
+            levels,
             head,
             next,
             table,
@@ -188,6 +197,7 @@ fn partition(
         k,
         bound,
         order,
+        levels,
         head,
         next,
         table,
@@ -218,6 +228,7 @@ pub fn split_within(
 {
     let room = enough(costs.len(), table.len(), rows.len());
     let mut order = [0u16; 512];
+    let mut levels = [0u16; 512];
     let mut head = [0u16; 513];
     let mut next = [0u16; 1024];
     let checked = validity::check(
@@ -230,6 +241,7 @@ pub fn split_within(
         bound,
         room,
         &mut order,
+        &mut levels,
         &mut head,
         &mut next,
     );
@@ -244,6 +256,7 @@ pub fn split_within(
         k,
         bound,
         &order,
+        &mut levels,
         &mut head,
         &mut next,
         table,

@@ -11,13 +11,13 @@ use borrow.Author.Tests.{lt-ltb, le-ltb, le-leb, lt-leb, ltb-true, leb-true, eq-
 use Rattle.folds.specs.Fold.{pick, turns, Read}
 use Rattle.folds.proofs.Cases.{by, both, either, eq-or-ne, and-false, no-bool}
 use Rattle.folds.proofs.Loops.{turns-zero, turns-turn}
-use Rattle.visit.specs.Visit.{Placed, pullTo, Pulled}
-use Rattle.visit.specs.Known.{openTo, Known, Fresh}
+use Rattle.neighbours.specs.Visit.{Placed, pullTo, Pulled}
+use Rattle.neighbours.specs.Known.{openTo, Known, Fresh}
 use Rattle.part_sums.specs.declared.PartSums.{PartSums}
 use Rattle.pass.specs.declared.Target.{Target}
 use Rattle.part_sums.specs.Sums.{sumsAllow, Shifts, shifted}
 use Rattle.part_sums.proofs.Sums.{allowed-shifts}
-use Rattle.pass.specs.Work.{betterOf, backOf, choiceOf, Chosen, Aims, Idle, Work, begun, choiceAt, gainAt, movedBy, worked, Paid, Goal, Done}
+use Rattle.pass.specs.Work.{betterOf, backOf, choiceOf, PickedPart, Aims, Idle, Work, begun, choiceAt, gainAt, movedBy, worked, Paid, Goal, WorkDone}
 
 module _ (f : ℕ → ℕ) (S : PartSums) (own cost bound : ℕ) where
   pub back-none : (high : ℕ) → high ≡ 0 → own ≡ backOf f S own cost bound high
@@ -64,7 +64,7 @@ module _ (f : ℕ → ℕ) (S : PartSums) (own cost bound : ℕ) where
       by (candidate && (ltb (f best) (f t) && sumsAllow S own t cost bound))
       (λ e. let m = ltb-true (f best) (f t) (both (ltb (f best) (f t)) _ (both candidate _ e .1) .0) in rw e (omega arith)) (λ e. rw e l)
 
-  pub choice-gains : {low high r : ℕ} → Chosen f S own cost bound low high r → f own ≤ f r
+  pub choice-gains : {low high r : ℕ} → PickedPart f S own cost bound low high r → f own ≤ f r
   unfolding choiceOf backOf
   choice-gains {low} {high} C = rw (C .is) (better-gains _ low _ (better-gains _ (high - 1) own (omega arith)))
 
@@ -122,7 +122,7 @@ module _ (f g : ℕ → ℕ) (S : PartSums) (own cost bound : ℕ) (same : (u : 
 
 -- the same by the sums of a walk
 pub aims-pulled : {froms tos widths table toward : List ℕ} {S : PartSums} {own cost bound low high h t : ℕ} → own < 16 → S .count ≤ 16
-    → Pulled froms tos widths table h toward → Chosen (λ u. getD toward u 0) S own cost bound low high t
+    → Pulled froms tos widths table h toward → PickedPart (λ u. getD toward u 0) S own cost bound low high t
     → Aims (pullTo froms tos widths table h) S own cost bound low high (record { part = t; gain = getD toward t 0 - getD toward own 0 })
 aims-pulled {toward = toward} {S} {own} {cost} {bound} {low} {high} {t = t} lo lc P C =
     record {
@@ -189,17 +189,17 @@ module _ (froms tos widths costs : List ℕ) (bound h : ℕ) where
 
   -- a visit that is left out
   pub done-closed : {low high marks : List ℕ} (w : Work) → h < 512 → Placed (w .table) → Known froms tos (w .table) (w .sums .count) low high marks → getD marks h 0 ≡ 0
-      → Done w w 1 (worked froms tos widths costs bound h w)
+      → WorkDone w w 1 (worked froms tos widths costs bound h w)
   done-closed w l p K z = record { is-so = worked-stay w _ (sym (closed-stays (w .sums) l K z)) refl; placed = p; counts = refl; few = omega arith }
 
 -- a loop of visits: the start, and a turn
-pub done-none : (f : ℕ → Work → Work) (w : Work) → Placed (w .table) → Done w w 0 (turns 0 f w)
+pub done-none : (f : ℕ → Work → Work) (w : Work) → Placed (w .table) → WorkDone w w 0 (turns 0 f w)
 done-none f w p = record { is-so = turns-zero f w; placed = p; counts = refl; few = omega arith }
 
-pub done-turn : (f : ℕ → Work → Work) {w u v : Work} {i : ℕ} → Done w u i (turns i f w) → Done u v 1 (f i u) → Done w v (i + 1) (turns (i + 1) f w)
+pub done-turn : (f : ℕ → Work → Work) {w u v : Work} {i : ℕ} → WorkDone w u i (turns i f w) → WorkDone u v 1 (f i u) → WorkDone w v (i + 1) (turns (i + 1) f w)
 done-turn f {w} a b =
     record { is-so = turns-turn f w (a .is-so) (b .is-so); placed = b .placed; counts = b .counts ∙ a .counts; few = omega (arith, a .few, b .few) }
 
 -- of a pass, which starts with nothing moved
-pub done-pass : {w v x : Work} {n : ℕ} → Done (begun w) v n x → Done w v n x
+pub done-pass : {w v x : Work} {n : ℕ} → WorkDone (begun w) v n x → WorkDone w v n x
 done-pass d = record { is-so = d .is-so; placed = d .placed; counts = d .counts; few = d .few }

@@ -6,8 +6,8 @@ use mathlib.Core.List.{List}
 use lib.Dec.{eqb, ltb, leb}
 use lib.ListN.{getD, set}
 use Rattle.folds.specs.Fold.{pick}
-use Rattle.visit.specs.Visit.{Placed, lowNext, highBefore, pullTo}
-use Rattle.visit.specs.Known.{Known}
+use Rattle.neighbours.specs.Visit.{Placed, lowNext, highBefore, pullTo}
+use Rattle.neighbours.specs.Known.{Known}
 use Rattle.part_sums.specs.declared.PartSums.{PartSums}
 use Rattle.pass.specs.declared.Progress.{Progress}
 use Rattle.pass.specs.declared.Target.{Target}
@@ -26,13 +26,13 @@ choiceOf f S own cost bound low high =
     betterOf f S own cost bound (ltb own low && ltb low (S .count)) low (backOf f S own cost bound high)
 
 -- r is that part, and one of the 16
-pub record Chosen (f : ℕ → ℕ) (S : PartSums) (own cost bound low high r : ℕ) : Type 0 where
+pub record PickedPart (f : ℕ → ℕ) (S : PartSums) (own cost bound low high r : ℕ) : Type 0 where
   pub is : r ≡ choiceOf f S own cost bound low high
   pub within : r < 16
 
 -- r is that part, and how much more the cluster is tied to it than to its own
 pub record Aims (f : ℕ → ℕ) (S : PartSums) (own cost bound low high : ℕ) (r : Target) : Type 0 where
-  pub chosen : Chosen f S own cost bound low high (r .part)
+  pub chosen : PickedPart f S own cost bound low high (r .part)
   pub gain-is : r .gain ≡ f (r .part) - f own
 
 -- a cluster stays in its part, whatever its widths are
@@ -89,7 +89,7 @@ pub record Goal (froms tos widths costs : List ℕ) (bound h : ℕ) (table : Lis
   pub known : Known froms tos table (S .count) low high marks
 
 -- what the code says of the work w′ that came of w by at most so many moves
-pub record Done (w w′ : Work) (most : ℕ) (is : Work) : Type 0 where
+pub record WorkDone (w w′ : Work) (most : ℕ) (is : Work) : Type 0 where
   pub is-so : w′ ≡ is
   pub placed : Placed (w′ .table)
   pub counts : w′ .sums .count ≡ w .sums .count

@@ -4,9 +4,9 @@ ghost use mathlib.Core.Path.{_≡_};
 ghost use Prim.Native.Nat.{ℕ, _<_, _≤_, _^_};
 ghost use lib.ListN.{length, getD};
 ghost use Rattle.folds.specs.Fold.{turns};
-ghost use Rattle.visit.specs.Visit.{Placed, Listed, Indexed, pullTo};
-ghost use Rattle.visit.specs.Known.{Known};
-ghost use Rattle.pass.specs.Work.{betterOf, backOf, Chosen, Aims, Idle, workOf, begun, worked, Paid, Goal, Done};
+ghost use Rattle.neighbours.specs.Visit.{Placed, Listed, Indexed, pullTo};
+ghost use Rattle.neighbours.specs.Known.{Known};
+ghost use Rattle.pass.specs.Work.{betterOf, backOf, PickedPart, Aims, Idle, workOf, begun, worked, Paid, Goal, WorkDone};
 use part_sums::PartSums;
 
 // The sums, the cut, the moves counted so far, and whether the pass at hand has moved something.
@@ -76,7 +76,7 @@ fn choice(
 ) -> usize
     requires { ⌜ length (now toward) ≡ 16 ⌝ }
     requires { ⌜ (own < 16) × (sums .count ≤ 16) ⌝ }
-    ensures { λ r. ⌜ Chosen (λ u. getD (now (toward .entry)) u 0) sums own cost bound low high r ⌝ }
+    ensures { λ r. ⌜ PickedPart (λ u. getD (now (toward .entry)) u 0) sums own cost bound low high r ⌝ }
 {
     let b = back(toward, sums, own, high, cost, bound);
     if low <= own {
@@ -152,7 +152,7 @@ fn decide(
         return Target { part: own, gain: 0 };
     }
     let mut toward = [0u32; 16];
-    visit::pulls(
+    neighbours::pulls(
         from,
         to,
         widths,
@@ -196,9 +196,9 @@ fn goal(
     requires { ⌜ (h < 512) × (length (now costs) ≡ 512) × (sums .count ≤ 16) ⌝ }
     ensures { λ r. ⌜ Goal (now (from .entry)) (now (to .entry)) (now (widths .entry)) (now (costs .entry)) bound h (now (table .entry)) sums (now (low .exit)) (now (high .exit)) (now (marks .exit)) r ⌝ }
 {
-    let own = visit::part_at(table, h);
+    let own = neighbours::part_at(table, h);
     let k = sums.count;
-    visit::refresh(
+    neighbours::refresh(
         from,
         to,
         table,
@@ -255,14 +255,14 @@ fn refine_cluster(
     requires { ⌜ Known (now from) (now to) (now table) (before .sums .count) (now low) (now high) (now marks) ⌝ }
     requires { ⌜ (h < 512) × (length (now costs) ≡ 512) × (before .sums .count ≤ 16) × (before .moves < 2 ^ 33) ⌝ }
     requires { ⌜ Paid (now from) (now to) (now widths) (now costs) bound h (workOf (now table) before) ⌝ }
-    ensures { λ r. ⌜ Done (workOf (now (table .entry)) before) (workOf (now (table .exit)) r) 1 (worked (now (from .entry)) (now (to .entry)) (now (widths .entry)) (now (costs .entry)) bound h (workOf (now (table .entry)) before)) ⌝ }
+    ensures { λ r. ⌜ WorkDone (workOf (now (table .entry)) before) (workOf (now (table .exit)) r) 1 (worked (now (from .entry)) (now (to .entry)) (now (widths .entry)) (now (costs .entry)) bound h (workOf (now (table .entry)) before)) ⌝ }
     ensures { λ _. ⌜ Known (now (from .entry)) (now (to .entry)) (now (table .exit)) (before .sums .count) (now (low .exit)) (now (high .exit)) (now (marks .exit)) ⌝ }
 {
     if marks[h] == 0 {
         return before;
     }
     let sums = before.sums;
-    let own = visit::part_at(table, h);
+    let own = neighbours::part_at(table, h);
     let aim = goal(
         from,
         to,
@@ -285,7 +285,7 @@ fn refine_cluster(
         return before;
     }
     table[h] = t as u16;
-    visit::rouse(from, to, head, next, head_in, next_in, h, marks);
+    neighbours::rouse(from, to, head, next, head_in, next_in, h, marks);
     let after = sums.moved(own, t, costs[h]);
     Progress {
         sums: after,
@@ -319,7 +319,7 @@ pub fn pass(
     requires { ⌜ Known (now from) (now to) (now table) (before .sums .count) (now low) (now high) (now marks) ⌝ }
     requires { ⌜ (g ≤ 512) × (length (now costs) ≡ 512) × (before .sums .count ≤ 16) × (before .moves < 2 ^ 32) ⌝ }
     requires { ⌜ ((i : ℕ) → i < g → Paid (now from) (now to) (now widths) (now costs) bound i (turns i (worked (now from) (now to) (now widths) (now costs) bound) (begun (workOf (now table) before)))) ⌝ }
-    ensures { λ r. ⌜ Done (workOf (now (table .entry)) before) (workOf (now (table .exit)) r) g (turns g (worked (now (from .entry)) (now (to .entry)) (now (widths .entry)) (now (costs .entry)) bound) (begun (workOf (now (table .entry)) before))) ⌝ }
+    ensures { λ r. ⌜ WorkDone (workOf (now (table .entry)) before) (workOf (now (table .exit)) r) g (turns g (worked (now (from .entry)) (now (to .entry)) (now (widths .entry)) (now (costs .entry)) bound) (begun (workOf (now (table .entry)) before))) ⌝ }
     ensures { λ _. ⌜ Known (now (from .entry)) (now (to .entry)) (now (table .exit)) (before .sums .count) (now (low .exit)) (now (high .exit)) (now (marks .exit)) ⌝ }
 {
     let mut p = before;

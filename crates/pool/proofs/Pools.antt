@@ -1,7 +1,7 @@
 -- What is in a pool: the lowest, one put in, one taken out.
-use Prim.Native.Nat.{ℕ, _+_, _*_, _/_, _%_, _^_, _≤_, _<_}
+use Prim.Native.Nat.{ℕ, _+_, _*_, _/_, _%_, _^_, _<_}
 use mathlib.Core.Path.{_≡_, refl, sym, ap, _∙_}
-use mathlib.Core.Bool.{Bool, true, false, not}
+use mathlib.Core.Bool.{Bool, true, false}
 use mathlib.Core.List.{List}
 use native.Mathlib.Nat.{div-add-mod', mod-lt}
 use native.Mathlib.Omega.{arith}
@@ -10,9 +10,9 @@ use lib.Count.{trailingZeros}
 use lib.Dec.{eqb}
 use lib.ListN.{length, getD, set, length-set, replicate, getD-replicate}
 use lib.Seq.{getD-set-same, getD-set-other, set-getD}
-use borrow.Author.Tests.{eqb-true, eqb-false, eq-eqb, ne-eqb}
+use borrow.Author.Tests.{eqb-true, eq-eqb, ne-eqb}
 use Rattle.folds.specs.Fold.{firstTo}
-use Rattle.folds.proofs.Cases.{by, either, eq-or-ne, no-bool, not-yes, not-no}
+use Rattle.folds.proofs.Cases.{by, either, eq-or-ne, no-bool, not-no}
 use Rattle.folds.proofs.Searches.{firstTo-found, firstTo-hit, firstTo-below, firstTo-all}
 use Rattle.pool.specs.Pool.{word, busy, Kept, putOf, takenOf, lowestOf}
 use Rattle.pool.proofs.Words.{word-ext, word-none, none-word, some-first, zeros-word, word-or, word-xor}

@@ -1,6 +1,6 @@
 // Numbers below 512 in nine words: eight of 64 bits, and one whose bits say which of the eight are not 0.
 ghost use mathlib.Core.Path.{_≡_};
-ghost use Prim.Native.Nat.{ℕ, _^_, _<_};
+ghost use Prim.Native.Nat.{_^_, _<_};
 ghost use lib.ListN.{length, getD};
 ghost use lib.Count.{trailingZeros};
 ghost use Rattle.pool.specs.Pool.{putOf, takenOf, lowestOf};

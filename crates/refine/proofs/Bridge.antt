@@ -18,13 +18,13 @@ use Rattle.graph.specs.Coarse.{Coarse}
 use Rattle.graph.specs.Rows.{clusters}
 use Rattle.graph.proofs.Edges.{through-at, length-through}
 use Rattle.graph.proofs.Tables.{size-cost}
-use Rattle.moves.specs.Move.{movedTo, partOf, pull, gainTo}
-use Rattle.moves.specs.Pass.{lowestNext, aboveBefore, stays, allows, tried, goesBack, target, Tally, settledAt, visited, passOf}
-use Rattle.moves.proofs.Visits.{no-less, target-chosen}
-use Rattle.moves.proofs.Move.{cut-move, cost-new, cost-old, cost-third}
-use Rattle.moves.proofs.Signed.{less-gain}
-use Rattle.moves.proofs.Entries.{first-of, moved-at}
-use Rattle.visit.specs.Visit.{Placed, pullTo}
+use Rattle.refinement.specs.Move.{movedTo, partOf, pull, gainTo}
+use Rattle.refinement.specs.Pass.{lowestNext, aboveBefore, stays, allows, tried, goesBack, target, Tally, settledAt, visited, passOf}
+use Rattle.refinement.proofs.Visits.{no-less, target-chosen}
+use Rattle.refinement.proofs.Move.{cut-move, cost-new, cost-old, cost-third}
+use Rattle.refinement.proofs.Signed.{less-gain}
+use Rattle.refinement.proofs.Entries.{first-of, moved-at}
+use Rattle.neighbours.specs.Visit.{Placed, pullTo}
 use Rattle.part_sums.specs.Sums.{SumsOf, sumsAllow}
 use Rattle.pass.specs.Work.{betterOf, backOf, choiceOf, Work, begun, choiceAt, gainAt, movedBy, worked, Paid}
 use Rattle.part_sums.proofs.Sums.{shifted-sums}

@@ -4,7 +4,7 @@ use mathlib.Core.Path.{_≡_, refl, sym, ap, subst, _∙_}
 use mathlib.Core.List.{List, _++_}
 use native.Mathlib.Omega.{arith}
 use lib.ListN.{length, getD, take, drop}
-use Rattle.folds.specs.Fold.{over, part}
+use Rattle.folds.specs.Fold.{over}
 use Rattle.folds.proofs.Sums.{sumTo-le}
 use Rattle.graph.specs.Graph.{Graph, vertices, edges, seen, crossing, cut, cutOf, Proper}
 use Rattle.graph.specs.Rows.{clusters, Hierarchy, rowsIn}
@@ -13,14 +13,14 @@ use Rattle.graph.proofs.Coarse.{stored-held}
 use Rattle.graph.proofs.Edges.{crossing-le}
 use Rattle.graph.specs.Totals.{Keyed}
 use Rattle.graph.specs.Table.{Good}
-use Rattle.moves.specs.Entries.{stateOf, GoodAt}
-use Rattle.moves.specs.Pass.{Tally, tallyOf, refinedOn, refinedBelow, refined}
-use Rattle.moves.proofs.Entries.{nested, good-down}
-use Rattle.moves.proofs.Own.{refined-steps, steps-good, steps-fall}
-use Rattle.moves.proofs.Claims.{refined-good}
+use Rattle.refinement.specs.Entries.{stateOf, GoodAt}
+use Rattle.refinement.specs.Pass.{Tally, tallyOf, refinedOn, refinedBelow, refined}
+use Rattle.refinement.proofs.Entries.{nested, good-down}
+use Rattle.refinement.proofs.Own.{refined-steps, steps-good, steps-fall}
+use Rattle.refinement.proofs.Claims.{refined-good}
 use Rattle.part_sums.specs.declared.PartSums.{PartSums}
 use Rattle.pass.specs.declared.Progress.{Progress}
-use Rattle.refine.specs.Rung.{Ready, Tracks, RefinedRow}
+use Rattle.refine.specs.Rung.{RowReady, Tracks, RefinedRow}
 use Rattle.refine.specs.declared.Outcome.{Outcome}
 use Rattle.refine.specs.Down.{RowLists, Descends, Refined}
 use Rattle.refine.proofs.Rung.{coarse-ended}
@@ -58,7 +58,7 @@ module _ (G : Graph) (P : Proper G) (k bound : ℕ) (few : k ≤ 16) (rows : ℕ
       subst (λ (x : ℕ). Good G k bound (rows x) parts) d (good-down G P k bound rows top (nested H) (stateOf (suc r) parts) r refl I .table)
 
   module _ (R : Tally) (r : ℕ) (parts : List ℕ) (moves : ℕ) (x : Descent G k bound rows top R r parts moves) where
-    descent-ready : 0 < r → Ready G k bound (rows (r - 1)) parts moves
+    descent-ready : 0 < r → RowReady G k bound (rows (r - 1)) parts moves
     descent-ready l =
         let q : r - 1 ≤ top = omega (arith, x .within) in
         record { proper = P; row-of = H .row (r - 1) q; onto = H .onto (r - 1) q; good = x .good; few = few; room = x .room }
@@ -81,9 +81,9 @@ module _ (G : Graph) (P : Proper G) (k bound : ℕ) (few : k ≤ 16) (rows : ℕ
         }
 
     -- the same with the record of sums, whose count is k
-    pub descent-at : {S : PartSums} {cut : ℕ} → 0 < r → Tracks G parts k S cut → Ready G (S .count) bound (rows (r - 1)) parts moves × Tracks G parts (S .count) S cut
+    pub descent-at : {S : PartSums} {cut : ℕ} → 0 < r → Tracks G parts k S cut → RowReady G (S .count) bound (rows (r - 1)) parts moves × Tracks G parts (S .count) S cut
     descent-at {S} {cut} l s =
-        (subst (λ (x : ℕ). Ready G x bound (rows (r - 1)) parts moves) (sym (s .sums .counts)) (descent-ready l), subst (λ (x : ℕ). Tracks G parts x S cut) (sym (s .sums .counts)) s)
+        (subst (λ (x : ℕ). RowReady G x bound (rows (r - 1)) parts moves) (sym (s .sums .counts)) (descent-ready l), subst (λ (x : ℕ). Tracks G parts x S cut) (sym (s .sums .counts)) s)
 
     pub descent-next : {S : PartSums} {cut : ℕ} (parts′ : List ℕ) (q : Progress) → 0 < r → Tracks G parts k S cut → RefinedRow G (S .count) bound (rows (r - 1)) parts moves parts′ q
         → Descent G k bound rows top R (r - 1) parts′ (q .moves) × Tracks G parts′ k (q .sums) (q .cut)
@@ -96,11 +96,6 @@ module _ (G : Graph) (P : Proper G) (k bound : ℕ) (few : k ≤ 16) (rows : ℕ
 -- the lists of the highest row
 pub stored-lists : {G : Graph} {rows : ℕ → List ℕ} {r m : ℕ} {froms tos widths sizes : List ℕ} → Stored G rows r m froms tos widths sizes → clusters (rows r) ≤ 512 → RowLists m r froms tos sizes
 stored-lists {r = r} S few = let (f, t, w) = stored-held S in record { from-in = f; to-in = t; ends = coarse-ended (S .is r (omega arith)) few }
-
--- a part as the code takes it
-pub row-part : (l : List ℕ) (a n : ℕ) → take (a + n - a) (drop a l) ≡ part l a n
-unfolding part
-row-part l a n = let e : a + n - a ≡ n = omega arith in rw e
 
 -- the caller's table, of which the front was refined
 pub front-refined : {G : Graph} {k bound : ℕ} {rows : List ℕ} {rung : ℕ} (table : List ℕ) → Descends G k bound rows rung (take (vertices G) table)

@@ -14,10 +14,10 @@ use Rattle.graph.specs.Graph.{Graph, edges, via, through, Formed, RowOf}
 use Rattle.graph.specs.Coarse.{Coarse}
 use Rattle.graph.proofs.Edges.{through-at}
 use Rattle.graph.proofs.Coarse.{coarse-sum, listed-edge, edge-listed}
-use Rattle.moves.specs.Move.{leaves, share, pull}
-use Rattle.moves.proofs.Visits.{choose, best-of}
-use Rattle.moves.specs.Pass.{lowered, raised, lowestNext, aboveBefore}
-use Rattle.visit.specs.Visit.{lowerBy, raiseBy, widthTo, lowNext, highBefore, pullTo}
+use Rattle.refinement.specs.Move.{leaves, share, pull}
+use Rattle.refinement.proofs.Visits.{choose, best-of}
+use Rattle.refinement.specs.Pass.{lowered, raised, lowestNext, aboveBefore}
+use Rattle.neighbours.specs.Visit.{lowerBy, raiseBy, widthTo, lowNext, highBefore, pullTo}
 
 -- the best of many, by a `better` that is the nearest to both in an order R
 module _ (better : ℕ → ℕ → ℕ) (R : ℕ → ℕ → Type 0) (self : (a : ℕ) → R a a) (trans : (a b c : ℕ) → R a b → R b c → R a c)

@@ -6,7 +6,8 @@ use mathlib.Core.List.{List}
 use native.Mathlib.Nat.{not-suc-le-zero}
 use native.Mathlib.Omega.{arith}
 use lib.ListN.{length, getD}
-use Rattle.folds.specs.Fold.{turns}
+use Rattle.folds.specs.Fold.{turns, over}
+use Rattle.folds.proofs.Slices.{over-whole}
 use Rattle.folds.proofs.Cases.{pick-yes, pick-no}
 use Rattle.graph.specs.Graph.{Graph, vertices, joining, through, Proper}
 use Rattle.graph.specs.Links.{Linked, Ended, leave}
@@ -19,16 +20,16 @@ use Rattle.graph.proofs.Totals.{totals-cost}
 use Rattle.graph.proofs.Rows.{onto-few}
 use Rattle.graph.specs.Graph.{cutOf}
 use Rattle.graph.specs.Table.{Good}
-use Rattle.moves.specs.Entries.{stateOf, GoodAt}
-use Rattle.moves.specs.Pass.{Tally, tallyOf, passOf, measure, passes, repeated, refinedOn}
-use Rattle.moves.proofs.Entries.{alone}
-use Rattle.moves.proofs.Own.{pass-steps, pass-falls, steps-good, steps-fall}
-use Rattle.visit.specs.Visit.{Placed, Listed, Indexed}
+use Rattle.refinement.specs.Entries.{stateOf, GoodAt}
+use Rattle.refinement.specs.Pass.{Tally, tallyOf, passOf, measure, passes, repeated, refinedOn}
+use Rattle.refinement.proofs.Entries.{alone}
+use Rattle.refinement.proofs.Own.{pass-steps, pass-falls, steps-good, steps-fall}
+use Rattle.neighbours.specs.Visit.{Placed, Listed, Indexed}
 use Rattle.part_sums.specs.declared.PartSums.{PartSums}
 use Rattle.pass.specs.declared.Progress.{Progress}
 use Rattle.pass.specs.Work.{Work, begun, worked}
 use Rattle.refine.specs.Tables.{Shared, Inherits}
-use Rattle.refine.specs.Rung.{Ready, Tracks, Settled, RefinedRow}
+use Rattle.refine.specs.Rung.{RowReady, Tracks, Settled, RefinedRow}
 use Rattle.refine.proofs.Tables.{inherits-through}
 use Rattle.refine.proofs.Bridge.{tallied, Follows, Drawn, pass-follows}
 
@@ -135,7 +136,7 @@ module _ {G : Graph} {row : List ℕ} {g : ℕ} {froms tos widths : List ℕ} (C
       }
 
 -- from what the work on a rung asks for
-module _ {G : Graph} {k bound : ℕ} {row parts : List ℕ} {moves : ℕ} (A : Ready G k bound row parts moves) where
+module _ {G : Graph} {k bound : ℕ} {row parts : List ℕ} {moves : ℕ} (A : RowReady G k bound row parts moves) where
   pub ready-few : clusters row ≤ 512
   ready-few = omega (arith, onto-few (vertices G) (clusters row) (λ v. getD row v 0) (A .row-of .below) (A .onto), A .proper .few)
 
@@ -161,17 +162,20 @@ module _ {G : Graph} {k bound : ℕ} {row parts : List ℕ} {moves : ℕ} (A : R
         shared = λ a b la lb e. A .good .shared a b (omega (arith, A .row-of .whole)) (omega (arith, A .row-of .whole)) e;
       }
 
-pub ready-stands : {G : Graph} {k bound : ℕ} {row : List ℕ} (w : Work) → Ready G k bound row (through row (w .table)) (w .moves)
+  pub through-whole : (table′ : List ℕ) {l : List ℕ} → l ≡ over (through row table′) parts → l ≡ through row table′
+  through-whole table′ e = e ∙ over-whole (through row table′) parts (length-through row table′ ∙ A .row-of .whole ∙ sym (A .good .whole))
+
+pub ready-stands : {G : Graph} {k bound : ℕ} {row : List ℕ} (w : Work) → RowReady G k bound row (through row (w .table)) (w .moves)
     → Tracks G (through row (w .table)) k (w .sums) (w .cut) → Placed (w .table) → Stands G k bound row (refinedOn G k bound row (tallyOf (through row (w .table)) (w .moves))) w
 unfolding refinedOn passes repeated passOf
 ready-stands {G} {row = row} w A r p = record { tracks = r; placed = p; good = A .good; going = record { left = passes G (through row (w .table)); enough = omega arith; comes = refl }; room = A .room }
 
 -- the work on a rung as a whole: into the clusters' table, and back
-module _ {G : Graph} {k bound : ℕ} {row parts : List ℕ} {moves : ℕ} (A : Ready G k bound row parts moves) (table : List ℕ) (I : Inherits row parts (length row) table) where
+module _ {G : Graph} {k bound : ℕ} {row parts : List ℕ} {moves : ℕ} (A : RowReady G k bound row parts moves) (table : List ℕ) (I : Inherits row parts (length row) table) where
   as-parts : through row table ≡ parts
   as-parts = inherits-through row parts table (A .good .whole ∙ sym (A .row-of .whole)) I
 
-  pub ready-sums : {S : PartSums} {cut : ℕ} → Tracks G parts k S cut → Tracks G (through row table) k S cut × Ready G k bound row (through row table) moves
+  pub ready-sums : {S : PartSums} {cut : ℕ} → Tracks G parts k S cut → Tracks G (through row table) k S cut × RowReady G k bound row (through row table) moves
   ready-sums R = rw as-parts (R, A)
 
   pub ready-settled : {table′ l : List ℕ} {r : Progress} → Settled G k bound row table moves table′ r → l ≡ through row table′ → RefinedRow G k bound row parts moves l r

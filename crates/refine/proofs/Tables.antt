@@ -1,17 +1,16 @@
 -- Laws of the loops over vertices.
-use Prim.Native.Nat.{ℕ, _+_, _≤_, _<_}
+use Prim.Native.Nat.{ℕ, _+_, _<_}
 use mathlib.Core.Path.{_≡_, refl, sym, _∙_}
 use mathlib.Core.List.{List}
 use native.Mathlib.Numerals.{add-one}
 use native.Mathlib.Omega.{arith}
 use lib.ListN.{length, getD, set, length-set, replicate, getD-replicate}
 use lib.Seq.{getD-set-same, getD-set-other}
-use Rattle.folds.specs.Fold.{Read, Filled}
+use Rattle.folds.specs.Fold.{Read}
 use Rattle.folds.proofs.Cases.{either, eq-or-ne, last-or}
 use Rattle.folds.proofs.Lists.{listed}
-use Rattle.folds.proofs.Slices.{filled-all}
 use Rattle.graph.specs.Graph.{through}
-use Rattle.visit.specs.Visit.{Placed}
+use Rattle.neighbours.specs.Visit.{Placed}
 use Rattle.refine.specs.Tables.{Shared, Inherits}
 
 -- the parts of clusters
@@ -47,10 +46,6 @@ inherits-turn row parts table {i} {c} {x} s l rc rx I =
 pub inherits-through : (row parts table : List ℕ) → length parts ≡ length row → Inherits row parts (length row) table → through row table ≡ parts
 unfolding through
 inherits-through row parts table e I = sym (listed parts (length row) (λ v. getD table (getD row v 0) 0) e (λ v l. sym (I .is v l)))
-
-pub through-filled : (row table : List ℕ) {l₀ l : List ℕ} {n : ℕ} → Filled l₀ l n (λ v. getD table (getD row v 0) 0) → length l ≤ n → n ≡ length row → l ≡ through row table
-unfolding through
-through-filled row table w h e = filled-all w h ∙ rw e
 
 -- what a read of a row gives
 pub shared-in : {row parts : List ℕ} {i b c : ℕ} → Shared row parts → i < length row → Read row i b c → c < 512

@@ -8,7 +8,7 @@ use Rattle.graph.specs.Graph.{Graph, vertices, cutOf, Proper}
 use Rattle.graph.specs.Links.{Ended}
 use Rattle.graph.specs.Rows.{rowsIn, Hierarchy}
 use Rattle.graph.specs.Table.{Good}
-use Rattle.moves.specs.Pass.{refined}
+use Rattle.refinement.specs.Pass.{refined}
 use Rattle.refine.specs.declared.Outcome.{Outcome}
 
 -- the lists that are stored of row r lie in those lent, and name clusters below 512

@@ -6,14 +6,14 @@ use lib.ListN.{getD}
 use Rattle.graph.specs.Graph.{Graph, vertices, cutOf, through, RowOf, Proper}
 use Rattle.graph.specs.Rows.{clusters}
 use Rattle.graph.specs.Table.{Good}
-use Rattle.moves.specs.Pass.{tallyOf, refinedOn}
-use Rattle.visit.specs.Visit.{Placed}
+use Rattle.refinement.specs.Pass.{tallyOf, refinedOn}
+use Rattle.neighbours.specs.Visit.{Placed}
 use Rattle.pass.specs.declared.Progress.{Progress}
 use Rattle.part_sums.specs.declared.PartSums.{PartSums}
 use Rattle.part_sums.specs.Sums.{SumsOf}
 
 -- a row with no empty cluster, and a table that is good on it; the moves so far leave room for those to come, each of which lowers the cut
-pub record Ready (G : Graph) (k bound : ℕ) (row parts : List ℕ) (moves : ℕ) : Type 0 where
+pub record RowReady (G : Graph) (k bound : ℕ) (row parts : List ℕ) (moves : ℕ) : Type 0 where
   pub proper : Proper G
   pub row-of : RowOf G row (clusters row)
   pub onto : (c : ℕ) → c < clusters row → (v : ℕ) × (v < vertices G) × (getD row v 0 ≡ c)

@@ -3,7 +3,7 @@ use Prim.Native.Nat.{ℕ, _<_}
 use mathlib.Core.Path.{_≡_}
 use mathlib.Core.List.{List}
 use lib.ListN.{length, getD}
-use Rattle.visit.specs.Visit.{Placed}
+use Rattle.neighbours.specs.Visit.{Placed}
 
 -- a cluster below 512 for each vertex, and a part below 16, shared in a cluster
 pub record Shared (row parts : List ℕ) : Type 0 where

@@ -6,10 +6,10 @@ ghost use Rattle.graph.specs.Graph.{graphOf, joining, cutOf, through};
 ghost use Rattle.graph.specs.Rows.{clusters, rowsIn};
 ghost use Rattle.graph.specs.Links.{Linked, leave};
 ghost use Rattle.graph.specs.Coarse.{Coarse, Stored, LinkedAt};
-ghost use Rattle.moves.specs.Pass.{tallyOf, refined};
-ghost use Rattle.visit.specs.Visit.{Placed};
+ghost use Rattle.refinement.specs.Pass.{tallyOf, refined};
+ghost use Rattle.neighbours.specs.Visit.{Placed};
 ghost use Rattle.refine.specs.Down.{RowLists, Descends, Refined};
-ghost use Rattle.refine.specs.Rung.{Ready, Tracks, Settled, RefinedRow};
+ghost use Rattle.refine.specs.Rung.{RowReady, Tracks, Settled, RefinedRow};
 ghost use Rattle.refine.specs.Tables.{Shared, Inherits};
 use part_sums::PartSums;
 use pass::Progress;
@@ -26,21 +26,6 @@ fn inherit(row: &[u16], parts: &[u16], table: &mut [u16; 512])
         let c = folds::at16(row, v);
         let p = folds::at16(parts, v);
         table[c] = p as u16;
-        v += 1;
-    }
-}
-
-// Gives each vertex the part of its cluster.
-fn hand_down(row: &[u16], table: &[u16; 512], parts: &mut [u16])
-    requires { ⌜ Shared (now row) (now parts) ⌝ }
-    requires { ⌜ length (now table) ≡ 512 ⌝ }
-    ensures { λ _. ⌜ now (parts .exit) ≡ through (now (row .entry)) (now (table .entry)) ⌝ }
-{
-    let n = row.len();
-    let mut v: usize = 0;
-    while v < n {
-        let h = folds::at16(row, v);
-        parts[v] = table[h];
         v += 1;
     }
 }
@@ -64,7 +49,7 @@ fn settle(
 ) -> Progress
     requires { ⌜ Placed (now table) ⌝ }
     requires { ⌜ Tracks (graphOf (now costs) (now starts) (now ends) (now widths)) (through (now row) (now table)) (before .sums .count) (before .sums) (before .cut) ⌝ }
-    requires { ⌜ Ready (graphOf (now costs) (now starts) (now ends) (now widths)) (before .sums .count) bound (now row) (through (now row) (now table)) (before .moves) ⌝ }
+    requires { ⌜ RowReady (graphOf (now costs) (now starts) (now ends) (now widths)) (before .sums .count) bound (now row) (through (now row) (now table)) (before .moves) ⌝ }
     requires { ⌜ Coarse (graphOf (now costs) (now starts) (now ends) (now widths)) (now row) (clusters (now row)) (now from) (now to) (now width) ⌝ }
     requires { ⌜ Linked (leave (joining (now from) (now to))) (length (now from)) (now head) (now next) ⌝ }
     ensures { λ r. ⌜ Settled (graphOf (now (costs .entry)) (now (starts .entry)) (now (ends .entry)) (now (widths .entry))) (before .sums .count) bound (now (row .entry)) (now (table .entry)) (before .moves) (now (table .exit)) r ⌝ }
@@ -79,7 +64,7 @@ fn settle(
     let mut high = [0u16; 512];
     let mut marks = [0u8; 512];
     let k = before.sums.count;
-    visit::survey(from, to, table, k, g, &mut low, &mut high, &mut marks);
+    neighbours::survey(from, to, table, k, g, &mut low, &mut high, &mut marks);
     let mut p = before;
     loop {
         p = pass::pass(
@@ -121,7 +106,7 @@ fn refine_row(
     parts: &mut [u16],
     before: Progress,
 ) -> Progress
-    requires { ⌜ Ready (graphOf (now costs) (now starts) (now ends) (now widths)) (before .sums .count) bound (now row) (now parts) (before .moves) ⌝ }
+    requires { ⌜ RowReady (graphOf (now costs) (now starts) (now ends) (now widths)) (before .sums .count) bound (now row) (now parts) (before .moves) ⌝ }
     requires { ⌜ Tracks (graphOf (now costs) (now starts) (now ends) (now widths)) (now parts) (before .sums .count) (before .sums) (before .cut) ⌝ }
     requires { ⌜ Coarse (graphOf (now costs) (now starts) (now ends) (now widths)) (now row) (clusters (now row)) (now from) (now to) (now width) ⌝ }
     requires { ⌜ Linked (leave (joining (now from) (now to))) (length (now from)) (now head) (now next) ⌝ }
@@ -144,7 +129,7 @@ fn refine_row(
         &mut table,
         before,
     );
-    hand_down(row, &table, parts);
+    graph::through(row, &table, parts);
     after
 }
 
@@ -166,7 +151,7 @@ fn refine_at(
     parts: &mut [u16],
     before: Progress,
 ) -> Progress
-    requires { ⌜ Ready (graphOf (now costs) (now starts) (now ends) (now widths)) (before .sums .count) bound (rowsIn (now rows) (length (now costs)) r) (now parts) (before .moves) ⌝ }
+    requires { ⌜ RowReady (graphOf (now costs) (now starts) (now ends) (now widths)) (before .sums .count) bound (rowsIn (now rows) (length (now costs)) r) (now parts) (before .moves) ⌝ }
     requires { ⌜ Tracks (graphOf (now costs) (now starts) (now ends) (now widths)) (now parts) (before .sums .count) (before .sums) (before .cut) ⌝ }
     requires { ⌜ Stored (graphOf (now costs) (now starts) (now ends) (now widths)) (rowsIn (now rows) (length (now costs))) r (length (now starts)) (now from) (now to) (now width) (now sizes) ⌝ }
     requires { ⌜ LinkedAt (length (now starts)) r (now from) (now to) (now sizes) (now head) (now next) ⌝ }

@@ -1,14 +1,13 @@
 -- What the call that joins asks for, and what the next row's lists are.
 use Prim.Native.Nat.{ℕ, _+_, _-_, _≤_, _<_}
-use mathlib.Core.Path.{_≡_, refl, sym, ap, _∙_}
+use mathlib.Core.Path.{_≡_}
 use mathlib.Core.List.{List, []}
 use native.Mathlib.Omega.{arith}
 use lib.ListN.{length, getD, take, drop}
 use lib.Seq.{length-take-le, getD-take}
-use Rattle.folds.specs.Fold.{sumTo, put, part}
-use Rattle.graph.specs.Graph.{graphOf, via, arcs, Inside}
+use Rattle.folds.specs.Fold.{put, part}
+use Rattle.graph.specs.Graph.{arcs, Inside}
 use Rattle.graph.specs.Links.{Joins}
-use Rattle.graph.specs.Coarse.{Narrow}
 use Rattle.joined_edges.specs.Joining.{Written}
 use Rattle.joined_edges.proofs.Lists.{listed-few, written-coarse}
 use Rattle.row_lists.specs.Carry.{Between, Maps, Next}

@@ -1,13 +1,13 @@
 -- The clusters' costs, one old cluster after another.
 use Prim.Native.Nat.{ℕ, _+_, _≤_, _<_}
-use mathlib.Core.Path.{_≡_, refl, sym, _∙_}
+use mathlib.Core.Path.{_≡_, sym, _∙_}
 use mathlib.Core.List.{List}
 use native.Mathlib.Omega.{arith}
 use lib.Dec.{eqb, ltb}
 use lib.ListN.{length, getD, set, length-set}
 use lib.Seq.{getD-set-same, getD-set-other}
 use borrow.Author.Tests.{ltb-true, ltb-false, lt-ltb, le-ltb}
-use Rattle.folds.specs.Fold.{when, sumTo, zeros}
+use Rattle.folds.specs.Fold.{when, sumTo, zeros, mostCost}
 use Rattle.folds.proofs.Cases.{by, either, eq-or-ne, when-le}
 use Rattle.folds.proofs.Sums.{sumTo-zero, sumTo-step, sumTo-turn, sumTo-mono, sumTo-less}
 use Rattle.folds.proofs.Lists.{getD-past, getD-zeros, length-zeros, set-add}
@@ -24,7 +24,7 @@ merged-turn {map} {weights} {weights′} {c} {d} M e l =
       is = λ x. set-add weights′ d (getD weights c 0) x (omega (arith, M .tall)) ∙ sumTo-turn (λ y. when (eqb (getD map y 0) x) (getD weights y 0)) (M .is x) (rw e);
     }
 
-pub merged-room : {map weights weights′ : List ℕ} {c g : ℕ} (d : ℕ) → Merged map weights c weights′ → c < g → sumTo g (λ x. getD weights x 0) ≤ 33553920 → getD weights′ d 0 + getD weights c 0 ≤ 33553920
+pub merged-room : {map weights weights′ : List ℕ} {c g : ℕ} (d : ℕ) → Merged map weights c weights′ → c < g → sumTo g (λ x. getD weights x 0) ≤ mostCost → getD weights′ d 0 + getD weights c 0 ≤ mostCost
 merged-room {map} {weights} {weights′} {c} {g} d M l h =
     omega (
       arith,

@@ -1,5 +1,5 @@
 -- From the lists of one row to those of the next, which lie after them.
-use Prim.Native.Nat.{ℕ, _+_, _≤_, _<_}
+use Prim.Native.Nat.{ℕ, _≤_, _<_}
 use mathlib.Core.Path.{_≡_}
 use mathlib.Core.List.{List, []}
 use lib.Dec.{eqb}

@@ -2,7 +2,7 @@
 ghost use mathlib.Core.Path.{_≡_};
 ghost use Prim.Native.Nat.{ℕ, _+_, _<_, _≤_};
 ghost use lib.ListN.{length, getD, take};
-ghost use Rattle.folds.specs.Fold.{sumTo, put, part};
+ghost use Rattle.folds.specs.Fold.{sumTo, put, part, mostCost};
 ghost use Rattle.row_lists.specs.Carry.{Between, Maps, First, Next, Merged};
 
 // Writes the first entries of src into dst, from a on.
@@ -115,7 +115,7 @@ pub fn carry(
 // The costs of the clusters that the g old ones become.
 pub fn merge(map: &[u16; 512], g: usize, weights: &mut [u32; 512])
     requires { ⌜ (length (now map) ≡ 512) × (g ≤ 512) × ((c : ℕ) → c < g → getD (now map) c 0 < 512) ⌝ }
-    requires { ⌜ (length (now weights) ≡ 512) × (sumTo g (λ c. getD (now weights) c 0) ≤ 33553920) ⌝ }
+    requires { ⌜ (length (now weights) ≡ 512) × (sumTo g (λ c. getD (now weights) c 0) ≤ mostCost) ⌝ }
     ensures { λ _. ⌜ Merged (now (map .entry)) (now (weights .entry)) g (now (weights .exit)) ⌝ }
 {
     let old = *weights;

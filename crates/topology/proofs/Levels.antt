@@ -1,17 +1,18 @@
 -- The laws of levels: a level is the number of edges on the longest path that ends there.
-use Prim.Native.Nat.{ℕ, zero, suc, _+_, _<_, _≤_}
-use mathlib.Core.Path.{_≡_, refl, _∙_}
+use Prim.Native.Nat.{ℕ, zero, suc, _+_, _-_, _<_, _≤_}
+use mathlib.Core.Path.{_≡_, refl, sym, ap, _∙_}
 use mathlib.Core.Bool.{Bool, true, false, not, _&&_}
-use mathlib.Core.List.{List}
+use mathlib.Core.List.{List, _++_}
 use native.Mathlib.Nat.{le-of-suc-le-suc}
 use native.Mathlib.Omega.{arith}
-use lib.Dec.{eqb}
-use lib.ListN.{length, getD}
-use borrow.Author.Tests.{eqb-true, eqb-false, eq-eqb, ne-eqb}
-use Rattle.folds.specs.Fold.{when, maxTo}
-use Rattle.folds.proofs.Cases.{either, both, not-yes}
+use lib.Dec.{eqb, ltb}
+use lib.ListN.{length, getD, drop, List·getD-append}
+use lib.Seq.{getD-append-add, getD-drop}
+use borrow.Author.Tests.{eqb-true, eqb-false, eq-eqb, ne-eqb, ltb-true, ltb-false}
+use Rattle.folds.specs.Fold.{when, maxTo, over, zeros}
+use Rattle.folds.proofs.Cases.{by, either, both, not-yes}
 use Rattle.folds.proofs.Searches.{max-ge, max-at}
-use Rattle.folds.proofs.Lists.{getD-listTo, getD-zeros, length-listTo, length-zeros}
+use Rattle.folds.proofs.Lists.{getD-listTo, getD-past, getD-zeros, length-listTo, length-zeros}
 use Rattle.graph.specs.Walk.{Path, here, step, Acyclic}
 use Rattle.graph.specs.Graph.{Arcs, Edge, Inside}
 use Rattle.graph.proofs.Walks.{path-short}
@@ -101,6 +102,21 @@ module _ (A : Arcs) where
         pub level-unique : (v i : ℕ) → v < g → Path (Edge A) i v → ((i′ : ℕ) → Path (Edge A) i′ v → i′ ≤ i) → i ≡ level A g v
         level-unique v i h q top = omega (arith, path-level q h, top (level A g v) (level-path v h))
 
-        -- a level is below the number of clusters
-        pub level-low : (v : ℕ) → v < g → level A g v < g
-        level-low v h = path-short (Edge A) g (λ a b t. edge-inside A g inside a b t .0) acyclic (level-path v h) h
+-- past the clusters the level is 0
+pub level-past : (A : Arcs) (g v : ℕ) → g ≤ v → level A g v ≡ 0
+unfolding level
+level-past A g v l = getD-past (levelsOf A g) v (rw (length-levels A g) l)
+
+-- what stands in the array of levels
+pub over-level : (A : Arcs) (g v : ℕ) → getD (over (levelsOf A g) (zeros 512)) v 0 ≡ level A g v
+unfolding over level
+over-level A g v =
+    by (ltb v (length (levelsOf A g)))
+    (λ t. List·getD-append (levelsOf A g) _ 0 v (ltb-true v _ t))
+    (λ t.
+    let h = ltb-false v (length (levelsOf A g)) t in
+    let e : v ≡ length (levelsOf A g) + (v - length (levelsOf A g)) = omega arith in
+    ap (λ (z : ℕ). getD (levelsOf A g ++ drop (length (levelsOf A g)) (zeros 512)) z 0) e
+    ∙ getD-append-add (levelsOf A g) (drop (length (levelsOf A g)) (zeros 512)) (v - length (levelsOf A g)) 0
+    ∙ getD-drop (length (levelsOf A g)) (zeros 512) (v - length (levelsOf A g)) 0
+    ∙ getD-zeros 512 _ ∙ sym (getD-past (levelsOf A g) v h))

@@ -1,9 +1,5 @@
-pub mod Waiting
-pub mod Opens
 pub mod Orders
 pub mod Reaches
-pub mod Free
-pub mod Searching
 pub mod Levels
 pub mod Sorted
 pub mod Same

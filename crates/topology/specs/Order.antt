@@ -1,5 +1,6 @@
 -- The topological order of clusters or parts.
-use Prim.Native.Nat.{ℕ, zero, suc}
+use Prim.Native.Nat.{ℕ, zero, suc, _≤_, _<_}
+use mathlib.Core.Path.{_≡_}
 use mathlib.Core.Bool.{Bool, not, _&&_}
 use mathlib.Core.List.{List, [], _∷_}
 use lib.Dec.{eqb, ltb}
@@ -32,3 +33,8 @@ orderOf A g = orderFrom A g g (zeros g)
 -- the place of v in an order, or its length
 unfoldable pub placeIn : List ℕ → ℕ → ℕ
 placeIn order v = firstTo (length order) (λ i. eqb (getD order i 0) v)
+
+-- the front of `order` holds the clusters in topological order
+pub record InOrder (A : Arcs) (g : ℕ) (order : List ℕ) : Type 0 where
+  pub long : g ≤ length order
+  pub is : (i : ℕ) → i < g → getD order i 0 ≡ getD (orderOf A g) i 0

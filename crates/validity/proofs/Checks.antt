@@ -7,19 +7,20 @@ use native.Mathlib.Omega.{arith}
 use lib.Dec.{eqb, ltb, leb}
 use lib.ListN.{length, getD}
 use borrow.Author.Tests.{eqb-true, ltb-false, leb-false, lt-ltb, le-ltb}
-use Rattle.folds.specs.Fold.{firstTo, over}
+use Rattle.folds.specs.Fold.{firstTo, over, zeros}
 use Rattle.folds.proofs.Cases.{no-bool, not-no}
 use Rattle.folds.proofs.Searches.{firstTo-le, firstTo-none}
 use Rattle.graph.specs.Graph.{identity, Arcs, arcs, joining, Inside}
 use Rattle.graph.specs.Links.{Ended, Linked, leave}
 use Rattle.graph.proofs.Edges.{joining-is}
-use Rattle.topology.specs.Reach.{lowestOnCycle}
+use Rattle.topology.specs.Reach.{onCycle, lowestOnCycle}
 use Rattle.topology.specs.Order.{orderOf}
-use Rattle.validity.specs.Fit.{Fits, OrderLeft}
+use Rattle.topology.specs.Level.{levelsOf}
+use Rattle.validity.specs.Contracts.{Fits, OrderLeft}
 use Rattle.validity.specs.Check.{refuseAt, badVertices, badEdges, badEnds}
 use Rattle.validity.specs.declared.Cause.{Cause}
 use Rattle.validity.specs.declared.Verdict.{Verdict}
-use Rattle.validity.specs.declared.Verdict.the-variants.{Refused}
+use Rattle.validity.specs.declared.Verdict.the-variants.{Passed, Refused}
 
 -- a chain of checks, from what the branches say
 module _ (cause : Cause) (i j n : ℕ) (x : Verdict) where
@@ -70,9 +71,20 @@ module _ {n : ℕ} {starts ends : List ℕ} (F : Fits n starts ends) where
   pub cycle-own : {v : ℕ} → v ≡ lowestOnCycle (joining starts ends) n → v ≡ lowestOnCycle (arcs (identity n) starts ends) n
   cycle-own e = e ∙ ap (λ (A : Arcs). lowestOnCycle A n) (sym own-row)
 
-  pub order-own : {r : Verdict} {old new head next : List ℕ} → new ≡ over (orderOf (joining starts ends) n) old
-      → Linked (leave (joining starts ends)) (length starts) head next → OrderLeft r n starts ends old new head next
-  order-own {old = old} o L = record { order = λ _. o ∙ ap (λ (A : Arcs). over (orderOf A n) old) (sym own-row); linked = λ _. L }
+  -- none lies on a cycle
+  cycle-none : {v : ℕ} → v ≡ lowestOnCycle (joining starts ends) n → n ≤ v → v ≡ n
+  unfolding lowestOnCycle
+  cycle-none e l = omega (arith, e, firstTo-le n (onCycle (joining starts ends) n))
+
+  pub order-own : {r : Verdict} {old new levels head next : List ℕ} {v : ℕ} → v ≡ lowestOnCycle (joining starts ends) n → n ≤ v → new ≡ over (orderOf (joining starts ends) n) old
+      → (v ≡ n → levels ≡ over (levelsOf (joining starts ends) n) (zeros 512)) → Linked (leave (joining starts ends)) (length starts) head next
+      → OrderLeft r n starts ends old new levels head next
+  order-own {old = old} e l o h L =
+      record {
+        order = λ _. o ∙ ap (λ (A : Arcs). over (orderOf A n) old) (sym own-row);
+        levels = λ _. h (cycle-none e l) ∙ ap (λ (A : Arcs). over (levelsOf A n) (zeros 512)) (sym own-row);
+        linked = λ _. L;
+      }
 
 -- what checks 1 to 3 leave known
 pub sizes-fit : (most n starts ends widths : ℕ) → most ≤ 512 → badVertices most n ≡ false → badEdges starts ends widths ≡ false
@@ -91,5 +103,8 @@ ends-fit-left n j starts ends widths few many same e l =
     ends-fit n starts ends widths few many same (omega (arith, e, firstTo-le (length starts) (badEnds n starts ends widths)))
 
 -- a refusal leaves no order
-pub refused-order : {cause : Cause} {place n : ℕ} {starts ends old new head next : List ℕ} → OrderLeft (Refused cause place) n starts ends old new head next
-refused-order = record { order = λ e. let z : _≡_ {A = ℕ} 0 1 = cc in absurd (omega arith); linked = λ e. let z : _≡_ {A = ℕ} 0 1 = cc in absurd (omega arith) }
+not-passed : {cause : Cause} {place : ℕ} → Refused cause place ≡ Passed → ⊥
+not-passed e = let z : _≡_ {A = ℕ} 0 1 = cc in omega arith
+
+pub refused-order : {cause : Cause} {place n : ℕ} {starts ends old new levels head next : List ℕ} → OrderLeft (Refused cause place) n starts ends old new levels head next
+refused-order = record { order = λ e. absurd (not-passed e); levels = λ e. absurd (not-passed e); linked = λ e. absurd (not-passed e) }

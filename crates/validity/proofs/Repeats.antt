@@ -17,8 +17,8 @@ use Rattle.folds.proofs.Searches.{any-i, any-ext, any-step, any-zero}
 use Rattle.pool.specs.Pool.{word}
 use Rattle.pool.proofs.Words.{word-ext, word-none, word-bit, word-or}
 use Rattle.validity.specs.Check.{repeats}
-use Rattle.validity.specs.Fit.{Fits}
-use Rattle.validity.specs.Repeat.{Roomy}
+use Rattle.validity.specs.Contracts.{Fits}
+use Rattle.validity.specs.Repeat.{WordsRoom}
 
 -- the word of edge j
 unfoldable pub wordOf : List ℕ → List ℕ → ℕ → ℕ → ℕ
@@ -87,7 +87,7 @@ module _ (starts ends : List ℕ) (stride : ℕ) where
               (λ n. getD-set-other words w v _ 0 n ∙ S .is v ∙ word-ext 64 _ _ (λ i _. sym (any-more j v i (other-word j v i (λ e. n (e ∙ sym at))))));
         }
 
-    module _ {rooms : ℕ} (R : Roomy starts ends stride rooms) (l : j < length starts) where
+    module _ {rooms : ℕ} (R : WordsRoom starts ends stride rooms) (l : j < length starts) where
       was-set : anyTo j (isBit starts ends stride w (getD ends j 0 % 64)) ≡ repeats starts ends j
       unfolding repeats isBit wordOf
       was-set = any-ext j _ _ (λ i h. rw at (same-tests stride _ _ _ _ (R .end-in i (omega arith)) (R .end-in j l)))
@@ -107,14 +107,14 @@ module _ {starts ends : List ℕ} {j a b : ℕ} (stride : ℕ) (from : Read star
   unfolding wordOf
   word-is = rw (from .is, to .is)
 
-  pub word-in : {words : ℕ} → Roomy starts ends stride words → j < length starts → a * stride + b / 64 < words
+  pub word-in : {words : ℕ} → WordsRoom starts ends stride words → j < length starts → a * stride + b / 64 < words
   word-in R l = rw (from .is, to .is) (omega (arith, R .start-in j l, high-bits (R .end-in j l)))
 
 pub bit-is : {ends : List ℕ} {j b x : ℕ} → Read ends j 65536 b → x ≡ 2 ^ (b % 64) → x ≡ 2 ^ (getD ends j 0 % 64)
 bit-is to e = rw (to .is) at e
 
 -- as many words for each vertex as have a bit for each
-pub fits-roomy : {n : ℕ} {starts ends : List ℕ} (stride : ℕ) → Fits n starts ends → n ≤ stride * 64 → Roomy starts ends stride (stride * 64 * stride)
+pub fits-roomy : {n : ℕ} {starts ends : List ℕ} (stride : ℕ) → Fits n starts ends → n ≤ stride * 64 → WordsRoom starts ends stride (stride * 64 * stride)
 fits-roomy {starts = starts} stride F l =
     record {
       same = F .same;

@@ -1,5 +1,5 @@
 pub mod Cause
 pub mod Check
 pub mod Repeat
-pub mod Fit
+pub mod Contracts
 pub mod Sound

@@ -11,7 +11,7 @@ unfoldable pub tried : ℕ → ℕ → ℕ
 tried place m = pick (ltb place m) (place + 1) m
 
 -- each start has `stride` of the words, and these have a bit for each end
-pub record Roomy (starts ends : List ℕ) (stride words : ℕ) : Type 0 where
+pub record WordsRoom (starts ends : List ℕ) (stride words : ℕ) : Type 0 where
   pub same : length ends ≡ length starts
   pub start-in : (j : ℕ) → j < length starts → getD starts j 0 * stride + stride ≤ words
   pub end-in : (j : ℕ) → j < length starts → getD ends j 0 < stride * 64

@@ -5,8 +5,8 @@ ghost use lib.ListN.{length, getD};
 ghost use Rattle.folds.specs.Fold.{firstTo};
 ghost use Rattle.graph.specs.Graph.{graphOf};
 ghost use Rattle.validity.specs.Cause.{numberOf};
-ghost use Rattle.validity.specs.Repeat.{Roomy, tried};
-ghost use Rattle.validity.specs.Fit.{Fits, OrderLeft};
+ghost use Rattle.validity.specs.Repeat.{WordsRoom, tried};
+ghost use Rattle.validity.specs.Contracts.{Fits, OrderLeft};
 ghost use Rattle.validity.specs.Check.{badVertices, badParts, badEdges, badCost, badEnds, repeats, repeatsFrom, costsFrom, checked};
 
 // In the order of document 01's numbers.
@@ -159,7 +159,7 @@ fn bad_end(n: usize, starts: &[u16], ends: &[u16], widths: &[u16]) -> usize
 // Tries the edges from the lowest up, to the first whose bit is set already: edge j has bit ends[j] % 64 of word
 // starts[j] * stride + ends[j] / 64.
 fn first_repeat(starts: &[u16], ends: &[u16], stride: usize, seen: &mut [u64]) -> Repeated
-    requires { ⌜ Roomy (now starts) (now ends) stride (length (now seen)) ⌝ }
+    requires { ⌜ WordsRoom (now starts) (now ends) stride (length (now seen)) ⌝ }
     requires { ⌜ ((w : ℕ) → getD (now seen) w 0 ≡ 0) ⌝ }
     ensures { λ r. ⌜ (r .place ≡ firstTo (length (now (starts .entry))) (repeats (now (starts .entry)) (now (ends .entry)))) × (r .tried ≡ tried (r .place) (length (now (starts .entry)))) ⌝ }
 {
@@ -204,20 +204,21 @@ fn check_repeats(
     starts: &[u16],
     ends: &[u16],
     order: &mut [u16; 512],
+    levels: &mut [u16; 512],
     head: &mut [u16; 513],
     next: &mut [u16; 1024],
 ) -> Verdict
     requires { ⌜ Fits n (now starts) (now ends) ⌝ }
     requires { ⌜ (length (now order) ≡ 512) × (length (now next) ≡ 1024) ⌝ }
     ensures { λ r. ⌜ r ≡ repeatsFrom n (now (starts .entry)) (now (ends .entry)) ⌝ }
-    ensures { λ r. ⌜ OrderLeft r n (now (starts .entry)) (now (ends .entry)) (now (order .entry)) (now (order .exit)) (now (head .exit)) (now (next .exit)) ⌝ }
+    ensures { λ r. ⌜ OrderLeft r n (now (starts .entry)) (now (ends .entry)) (now (order .entry)) (now (order .exit)) (now (levels .exit)) (now (head .exit)) (now (next .exit)) ⌝ }
 {
     let found = find_repeat(n, starts, ends);
     let j = found.place;
     if j < starts.len() {
         return Verdict::Refused(Cause::Repeat, j);
     }
-    let v = topology::lowest_on_cycle(starts, ends, n, order, head, next);
+    let v = ordering::lowest_on_cycle(starts, ends, n, order, levels, head, next);
     if v < n {
         return Verdict::Refused(Cause::Cycle, v);
     }
@@ -232,13 +233,14 @@ fn check_costs(
     widths: &[u16],
     bound: u32,
     order: &mut [u16; 512],
+    levels: &mut [u16; 512],
     head: &mut [u16; 513],
     next: &mut [u16; 1024],
 ) -> Verdict
     requires { ⌜ (length (now costs) ≤ 512) × (length (now starts) ≤ 1024) ⌝ }
     requires { ⌜ (length (now ends) ≡ length (now starts)) × (length (now widths) ≡ length (now starts)) × (length (now order) ≡ 512) × (length (now next) ≡ 1024) ⌝ }
     ensures { λ r. ⌜ r ≡ costsFrom (graphOf (now (costs .entry)) (now (starts .entry)) (now (ends .entry)) (now (widths .entry))) bound ⌝ }
-    ensures { λ r. ⌜ OrderLeft r (length (now (costs .entry))) (now (starts .entry)) (now (ends .entry)) (now (order .entry)) (now (order .exit)) (now (head .exit)) (now (next .exit)) ⌝ }
+    ensures { λ r. ⌜ OrderLeft r (length (now (costs .entry))) (now (starts .entry)) (now (ends .entry)) (now (order .entry)) (now (order .exit)) (now (levels .exit)) (now (head .exit)) (now (next .exit)) ⌝ }
 {
     let v = bad_cost(costs, bound);
     if v < costs.len() {
@@ -248,11 +250,11 @@ fn check_costs(
     if j < starts.len() {
         return Verdict::Refused(Cause::Ends, j);
     }
-    check_repeats(costs.len(), starts, ends, order, head, next)
+    check_repeats(costs.len(), starts, ends, order, levels, head, next)
 }
 
 // Checks 1 to 8: at most `most` vertices; `room` is the caller's verdict of check 4. Where they pass, the topological order
-// of the vertices is left in the front of `order`, and the links of the edges from each in `head` and `next`.
+// of the vertices is left in the front of `order`, their levels in `levels`, and the links of the edges from each in `head` and `next`.
 pub fn check(
     most: usize,
     costs: &[u16],
@@ -263,12 +265,13 @@ pub fn check(
     bound: u32,
     room: bool,
     order: &mut [u16; 512],
+    levels: &mut [u16; 512],
     head: &mut [u16; 513],
     next: &mut [u16; 1024],
 ) -> Verdict
     requires { ⌜ (most ≤ 512) × (length (now order) ≡ 512) × (length (now next) ≡ 1024) ⌝ }
     ensures { λ r. ⌜ r ≡ checked most (graphOf (now (costs .entry)) (now (starts .entry)) (now (ends .entry)) (now (widths .entry))) k bound room ⌝ }
-    ensures { λ r. ⌜ OrderLeft r (length (now (costs .entry))) (now (starts .entry)) (now (ends .entry)) (now (order .entry)) (now (order .exit)) (now (head .exit)) (now (next .exit)) ⌝ }
+    ensures { λ r. ⌜ OrderLeft r (length (now (costs .entry))) (now (starts .entry)) (now (ends .entry)) (now (order .entry)) (now (order .exit)) (now (levels .exit)) (now (head .exit)) (now (next .exit)) ⌝ }
 {
     if bad_vertices(most, costs.len()) {
         return Verdict::Refused(Cause::Vertices, 0);
@@ -282,5 +285,15 @@ pub fn check(
     if !room {
         return Verdict::Refused(Cause::Room, 0);
     }
-    check_costs(costs, starts, ends, widths, bound, order, head, next)
+    check_costs(
+        costs,
+        starts,
+        ends,
+        widths,
+        bound,
+        order,
+        levels,
+        head,
+        next,
+    )
 }

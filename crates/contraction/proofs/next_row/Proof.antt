@@ -1,10 +1,11 @@
+-- The vertices below v have their new clusters, numbered in the order in which they first come.
 use Prim.Native.Nat.{ℕ, _≤_, _-_}
 use native.Mathlib.Omega.{arith}
 use mathlib.Core.Path.{_≡_, _∙_}
 use lib.ListN.{length, getD, length-set}
 use Rattle.folds.proofs.Slices.{filled-none, filled-turn}
 use Rattle.folds.specs.Fold.{Filled, zeros}
-use Rattle.contraction.specs.Next.{mateIn}
+use Rattle.contraction.specs.Contracts.{mateIn}
 use Rattle.contraction.proofs.Next.{number}
 use Rattle.contraction.proofs.Naming.{Numbering, Mapped, numbering-none, numbering-low, name-turn, name-at, cluster-low, joined-end, mapped-none, mapped-turn, renamed-end}
 use borrow.Author.Needs.{needs}

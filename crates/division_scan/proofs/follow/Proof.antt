@@ -4,8 +4,8 @@ use native.Mathlib.Nat.{sub-zero}
 use Prim.Native.Nat.{_-_, _≤_}
 use Rattle.folds.specs.Fold.{Wrote}
 use Rattle.folds.proofs.Slices.{wrote-none, wrote-turn, wrote-done}
-use Rattle.division.specs.Table.{startsBy}
-use Rattle.division.proofs.Tables.{next-within, starts-more, starts-end}
+use Rattle.division_table.specs.Contracts.{startsBy}
+use Rattle.division_table.proofs.Tables.{next-within, starts-more, starts-end}
 use Rattle.division_scan.specs.Scan.{leavingBy}
 use borrow.Author.Needs.{needs}
 use Rattle.division_scan.proofs.follow.Statement.{statement}

@@ -4,9 +4,9 @@ use Prim.Native.Nat.{_≤_}
 use lib.ListN.{length}
 use mathlib.Core.Path.{_≡_, refl, sym}
 use Rattle.folds.specs.Fold.{zeros}
-use Rattle.division.specs.Table.{span, within, Done}
-use Rattle.division.proofs.Sweeps.{done-none}
-use Rattle.division.proofs.Spans.{span-none}
+use Rattle.division_table.specs.Contracts.{span, within, LeastFrom}
+use Rattle.division_table.proofs.Sweeps.{done-none}
+use Rattle.division_table.proofs.Spans.{span-none}
 use Rattle.division_scan.specs.Scan.{leavingBy, Flows}
 use Rattle.division_scan.proofs.Flows.{flows-none, flows-room, rest-next, rest-room, turn-flows, turn-weights, turn-done, tabled-end}
 use borrow.Author.Needs.{needs}
@@ -14,7 +14,7 @@ use Rattle.division_scan.proofs.tabulate.Statement.{statement}
 use Rattle.division_scan.proofs.tabulate.Tie as tie
 
 abbrev Inv-loop : tie.InvT-loop
-Inv-loop starts ends widths places cost before after order head next bound g n away₀ cut₀ into₀ rest₀ y₀ away cut into rest y = (y ≤ g) × (rest ≡ span cost y g) × Flows places starts ends widths g y away into × Done n g (within cost bound) (leavingBy places starts ends widths) before y cut × (length cut ≡ length cut₀)
+Inv-loop starts ends widths places cost before after order head next bound g n away₀ cut₀ into₀ rest₀ y₀ away cut into rest y = (y ≤ g) × (rest ≡ span cost y g) × Flows places starts ends widths g y away into × LeastFrom n g (within cost bound) (leavingBy places starts ends widths) before y cut × (length cut ≡ length cut₀)
 
 abbrev μ-loop : tie.MeasureT-loop
 μ-loop starts ends widths places cost before after order head next bound g n away₀ cut₀ into₀ rest₀ y₀ away cut into rest y = y

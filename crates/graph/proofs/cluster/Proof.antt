@@ -1,3 +1,4 @@
+-- An end is a vertex of the row, so its entry is there.
 use Rattle.graph.proofs.Links.{end-in, cluster-is}
 use borrow.Author.Needs.{needs}
 use Rattle.graph.proofs.cluster.Statement.{statement}

@@ -1,3 +1,4 @@
+-- The count is one more than the highest cluster below v.
 use Rattle.graph.proofs.Totals.{count-none, count-turn}
 use Rattle.graph.specs.Rows.{clusters}
 use Rattle.folds.specs.Fold.{maxTo}

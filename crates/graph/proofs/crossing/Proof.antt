@@ -1,3 +1,4 @@
+-- An edge inside a part adds nothing.
 use Rattle.graph.specs.Graph.{crossing}
 use Rattle.graph.proofs.Links.{joined-ends}
 use native.Mathlib.Omega.{arith}

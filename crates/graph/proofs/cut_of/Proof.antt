@@ -1,3 +1,4 @@
+-- The sum is the cut of the edges below j, and so fits.
 use Rattle.graph.specs.Graph.{arcs, crossing, cut}
 use Rattle.folds.specs.Fold.{sumTo}
 use Rattle.folds.proofs.Sums.{sumTo-zero, sumTo-turn, sumTo-end}

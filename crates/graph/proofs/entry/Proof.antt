@@ -1,3 +1,4 @@
+-- An entry of 16 bits fits 32.
 use mathlib.Core.Path.{refl}
 use native.Mathlib.Omega.{arith}
 use borrow.Author.Needs.{needs}

@@ -1,3 +1,4 @@
+-- The two ends are compared as they stand.
 use Rattle.graph.specs.Links.{leave}
 use native.Mathlib.Omega.{arith}
 use borrow.Author.Tests.{eq-eqb, ne-eqb}

@@ -1,3 +1,4 @@
+-- The costs of the vertices below v are in the sums of their keys.
 use Rattle.graph.proofs.Totals.{keyed-in, totals-none, totals-turn, totals-room}
 use Rattle.graph.specs.Totals.{Totals}
 use Prim.Native.Nat.{_≤_, _-_}

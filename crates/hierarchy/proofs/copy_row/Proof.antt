@@ -1,3 +1,4 @@
+-- The entries below i are those of the array.
 use lib.ListN.{take}
 use Rattle.folds.specs.Fold.{Filled}
 use Rattle.folds.proofs.Lists.{listTo-getD}

@@ -1,3 +1,4 @@
+-- The entries below v are their own numbers.
 use Rattle.graph.specs.Graph.{identity}
 use Rattle.folds.specs.Fold.{Filled}
 use Rattle.folds.proofs.Slices.{filled-none, filled-turn, filled-all}

@@ -1,11 +1,9 @@
 -- what is carried of row r, as it is handed on
-use Prim.Native.Nat.{_+_, _*_}
 use native.Mathlib.Omega.{arith}
 use lib.ListN.{length}
-use Rattle.row_lists.proofs.Carrying.{handed}
 use Rattle.hierarchy.proofs.OneRound.{rows-in}
 use Rattle.hierarchy.proofs.Handing.{place-few}
-use Rattle.hierarchy.proofs.Stepping.{size-few, links-handed, carries-handed, list-fits}
+use Rattle.hierarchy.proofs.Stepping.{size-few, links-handed, levels-handed, carries-handed, list-fits}
 use borrow.Author.Needs.{needs}
 use Rattle.hierarchy.proofs.join_at.Statement.{statement}
 use Rattle.hierarchy.proofs.join_at.Tie as tie
@@ -37,6 +35,6 @@ join-at-spec =
     (λ c. search needs)
     (λ c. search needs)
     (λ c. let s = c .before .before .before .before .before .before .before .before .before .before .before .before .before .before in let p = s .pre in let q = rows-in (s .args .r) (length (s .args .costs .now)) (length (s .args .orders .now)) (p .1 .1 .1 .0) (p .1 .1 .0 .order-room) in search needs)
-    (λ c κs. let s = c .before .before .before .before .before .before .before .before .before .before .before .before .before .before .before .before .before in let p = s .pre in let room = rows-in (s .args .r) (length (s .args .costs .now)) (length (s .args .orders .now)) (p .1 .1 .1 .0) (p .1 .1 .0 .order-room) in (p .0 .0, (carries-handed (p .0 .0) (p .0 .1) (p .1 .0) (p .1 .1 .1 .2) (c .before .before .before .before .before .before .wide .ensures) (omega (arith, room)), ((p .1 .1 .1 .0, p .1 .1 .1 .1, links-handed (c .before .before .before .before .before .before .wide .ensures) (p .1 .1 .1 .3)), p .1 .1 .0 .row-room))))
-    (λ c. c .before .rows .given)
+    (λ c κs. let s = c .before .before .before .before .before .before .before .before .before .before .before .before .before .before .before .before .before in let p = s .pre in let room = rows-in (s .args .r) (length (s .args .costs .now)) (length (s .args .orders .now)) (p .1 .1 .1 .0) (p .1 .1 .0 .order-room) in (p .0 .0, (carries-handed (p .0 .0) (p .0 .1) (p .1 .0) (p .1 .1 .1 .2) (c .before .before .before .before .before .before .wide .ensures) (omega (arith, room)), ((p .1 .1 .1 .0, p .1 .1 .1 .1, links-handed (c .before .before .before .before .before .before .wide .ensures) (p .1 .1 .1 .3), levels-handed (c .before .before .before .before .before .before .wide .ensures) (p .1 .1 .1 .4)), p .1 .1 .0 .row-room))))
+    (λ c. search needs)
     (λ c. search needs))

@@ -28,7 +28,7 @@ join-row-spec =
     (λ c. omega (arith, low c, start c .pre .0 .proper .few))
     (λ c. omega (arith, low c, start c .pre .0 .proper .few))
     (λ c. omega (arith, low c, start c .pre .0 .proper .few))
-    (λ c κs. let s = start (c .before) in (carried-ready (s .pre .0) (s .pre .1 .0), ((s .pre .1 .0 .weighed, carried-simple (s .pre .0) (s .pre .1 .0)), (s .pre .1 .1 .0 .2, carried-order (s .pre .0) (s .pre .1 .0)))))
+    (λ c κs. let s = start (c .before) in (carried-ready (s .pre .0) (s .pre .1 .0), ((s .pre .1 .0 .weighed, carried-simple (s .pre .0) (s .pre .1 .0)), (s .pre .1 .1 .0 .2, (carried-order (s .pre .0) (s .pre .1 .0), s .pre .1 .1 .0 .3)))))
     (λ c. search needs)
     (λ c. let e = c .before .before .before in let s = start e in record { joined = joined-poor _ _ _ _ _ _ (s .pre .0) (s .pre .1 .1 .0 .0) (s .pre .1 .1 .1) (e .if1 .left) (carried-matched (s .pre .0) (s .pre .1 .0) (c .before .round .ensures)) (c .if2 .taken); renamed = λ n. absurd (n refl) })
     (λ c. omega (arith, low (tried c), start (tried c) .pre .0 .proper .few))

@@ -8,7 +8,7 @@ use Rattle.graph.specs.Rows.{rowsIn}
 use Rattle.graph.proofs.Coarse.{lower-stored}
 use Rattle.graph.proofs.Rows.{hierarchy-layer}
 use Rattle.initial.specs.Initial.{initialOf, highest, chosenOf}
-use Rattle.initial.specs.Answers.{LinkedBelow}
+use Rattle.initial.specs.Contracts.{LinkedBelow}
 use Rattle.initial.proofs.Chooses.{row-hit, row-miss, rows-start, rows-end, lower-lent, lower-ordered, stored-linkable, linked-top, linked-at, linked-uncut}
 use borrow.Author.Needs.{needs}
 use Rattle.initial.proofs.choose.Statement.{statement}

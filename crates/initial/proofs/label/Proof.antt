@@ -5,7 +5,7 @@ use mathlib.Core.Path.{_≡_, _∙_, ap}
 use lib.ListN.{length, getD, take}
 use Rattle.folds.specs.Fold.{Filled}
 use Rattle.folds.proofs.Slices.{filled-none, filled-turn, filled-end}
-use Rattle.division.specs.Division.{intervalOf}
+use Rattle.division_table.specs.Division.{intervalOf}
 use Rattle.initial.specs.Initial.{partsOf}
 use borrow.Author.Needs.{needs}
 use Rattle.initial.proofs.label.Statement.{statement}

@@ -2,7 +2,8 @@
 use Prim.Native.Nat.{_*_, _-_}
 use native.Mathlib.Omega.{arith}
 use lib.ListN.{getD}
-use Rattle.initial.proofs.Chooses.{row-part, linkable-below}
+use Rattle.folds.proofs.Slices.{slice-part}
+use Rattle.initial.proofs.Chooses.{linkable-below}
 use borrow.Author.Needs.{needs}
 use Rattle.initial.proofs.link_below.Statement.{statement}
 use Rattle.initial.proofs.link_below.Tie as tie
@@ -28,6 +29,6 @@ link-below-spec =
     (λ c. search needs)
     (λ c. let p = c .before .before .before .before .before .before .pre in omega (arith, linkable-below (p .0) (c .before .before .before .if1 .left), c .before .wide .ensures))
     (λ c κs. let p = c .before .before .before .before .before .before .before .before .before .pre in let a = c .before .before .before .before .before .before .before .before .before .args in let b = (a .r - 1) * a .m in let z = getD (a .sizes .now) (a .r - 1) 0 in
-    (rw (c .before .before .before .before .wide .ensures, row-part (a .from .now) b z, row-part (a .to .now) b z) (p .0 .ended (a .r - 1) (omega arith)), p .1))
+    (rw (c .before .before .before .before .wide .ensures, slice-part (a .from .now) b z, slice-part (a .to .now) b z) (p .0 .ended (a .r - 1) (omega arith)), p .1))
     (λ c. let a = c .before .before .before .before .before .before .before .before .before .before .args in let b = (a .r - 1) * a .m in let z = getD (a .sizes .now) (a .r - 1) 0 in
-    record { below = λ _. record { linked = rw (c .before .before .before .before .before .wide .ensures, row-part (a .from .now) b z, row-part (a .to .now) b z) at (c .link-leaving .ensures) } }))
+    record { below = λ _. record { linked = rw (c .before .before .before .before .before .wide .ensures, slice-part (a .from .now) b z, slice-part (a .to .now) b z) at (c .link-leaving .ensures) } }))

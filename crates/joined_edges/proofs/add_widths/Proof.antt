@@ -1,3 +1,4 @@
+-- The widths of the edges of u up to j are in the sums of their ends.
 use lib.ListN.{length}
 use native.Mathlib.Omega.{arith}
 use mathlib.Core.Path.{_≡_, refl}

@@ -1,10 +1,11 @@
+-- Along the edges of u up to j: the first to each end wrote one joined edge with the summed width, and took the sum away.
 use lib.ListN.{length}
 use native.Mathlib.Omega.{arith}
 use mathlib.Core.Path.{_≡_, refl}
 use Prim.Native.Nat.{_-_}
 use Rattle.joined_edges.proofs.Joins.{writing-none, writing-room, writing-turn, writing-end}
 use Rattle.joined_edges.specs.Joining.{Writing}
-use Rattle.graph.proofs.Links.{On, walk-on, walk-next, walk-less, on-end}
+use Rattle.graph.proofs.Links.{On, walk-on, walk-next, walk-less}
 use Rattle.graph.specs.Links.{leave}
 use Rattle.graph.specs.Graph.{arcs}
 use borrow.Author.Needs.{needs}

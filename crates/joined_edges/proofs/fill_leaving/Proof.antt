@@ -5,7 +5,7 @@ use Rattle.graph.specs.Links.{leave}
 use lib.ListN.{length}
 use native.Mathlib.Omega.{arith}
 use mathlib.Core.Path.{_≡_, refl, sym}
-use Prim.Native.Nat.{_≤_, _-_, _+_}
+use Prim.Native.Nat.{_≤_, _-_}
 use borrow.Author.Needs.{needs}
 use Rattle.joined_edges.proofs.fill_leaving.Statement.{statement}
 use Rattle.joined_edges.proofs.fill_leaving.Tie as tie

@@ -1,3 +1,4 @@
+-- The joined edges of the clusters below u stand in the lists, and all sums are 0 again.
 use lib.ListN.{length}
 use native.Mathlib.Omega.{arith}
 use mathlib.Core.Path.{_≡_, refl}

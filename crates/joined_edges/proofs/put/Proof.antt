@@ -1,3 +1,4 @@
+-- The joined edge stands after the n before it.
 use mathlib.Core.Path.{refl}
 use borrow.Author.Tests.{eq-eqb, ne-eqb}
 use borrow.Author.Needs.{needs}

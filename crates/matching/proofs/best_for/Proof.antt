@@ -1,5 +1,4 @@
 -- all that leaves u, then the widest offer by it
-use borrow.Author.Needs.{needs}
 use Rattle.matching.proofs.best_for.Statement.{statement}
 use Rattle.matching.proofs.best_for.Tie as tie
 

@@ -7,7 +7,7 @@ use Rattle.partition.proofs.phases.Tie as tie
 
 -- the places after the first and the second phase, seen from later ones
 abbrev start : tie.After-build → tie.Start
-start c = c .before .before .before .before .before .before .before .before .before .before .before .before .before .before .before .before .before .before .before
+start c = c .before .before .before .before .before .before .before .before .before .before .before .before .before .before .before .before .before .before .before .before
 
 abbrev built : tie.After-choose → tie.After-build
 built c = c .before .before .before .before .before .before .before .before .before .before .before .before .before .before .before .before .before .before .before .before
@@ -19,8 +19,8 @@ pub phases-spec : {M : Type 1} → statement M
 phases-spec =
     tie.close
     (tie.spec
-    (λ c κs. let p = c .before .before .before .before .before .before .before .before .before .before .before .before .before .before .before .before .before .before .pre in
-    (sound-builds (p .0), (record { row-room = p .1 .0 .1; from-room = p .1 .1 .0 .0; to-room = p .1 .1 .0 .1; width-room = p .1 .1 .0 .2; nine = refl; order-room = p .1 .1 .0 .3 }, (p .1 .1 .1 .0 .0, (p .1 .1 .1 .0 .1, p .1 .1 .1 .1)))))
+    (λ c κs. let p = c .before .before .before .before .before .before .before .before .before .before .before .before .before .before .before .before .before .before .before .pre in
+    (sound-builds (p .0), (record { row-room = p .1 .0 .1; from-room = p .1 .1 .0 .0; to-room = p .1 .1 .0 .1; width-room = p .1 .1 .0 .2; nine = refl; order-room = p .1 .1 .0 .3 }, (p .1 .1 .1 .0 .0, ((p .1 .1 .1 .0 .1, p .1 .1 .1 .1 .0), p .1 .1 .1 .1 .1)))))
     (λ c κs. let a = c .before .before .before .before .before .before .before .before .before .before .before .before .before .before .before .before .before .before .before in
     let s = start a in
     let p = s .pre in

@@ -1,7 +1,7 @@
 -- h clusters have been visited.
 use Rattle.pass.proofs.Work.{done-none, done-turn, done-pass}
-use Rattle.pass.specs.Work.{workOf, worked, Done}
-use Rattle.visit.specs.Known.{Known}
+use Rattle.pass.specs.Work.{workOf, worked, WorkDone}
+use Rattle.neighbours.specs.Known.{Known}
 use Rattle.folds.specs.Fold.{turns}
 use Prim.Native.Nat.{_≤_, _-_}
 use mathlib.Core.Path.{_≡_}
@@ -12,7 +12,7 @@ use Rattle.pass.proofs.pass.Tie as tie
 
 abbrev Inv-loop : tie.InvT-loop
 Inv-loop from to widths head next head-in next-in costs bound g low₀ high₀ marks₀ table₀ p₀ h₀ low high marks table p h =
-    (h ≤ g) × Done (workOf table₀ p₀) (workOf table p) h (turns h (worked from to widths costs bound) (workOf table₀ p₀)) × Known from to table (p₀ .sums .count) low high marks
+    (h ≤ g) × WorkDone (workOf table₀ p₀) (workOf table p) h (turns h (worked from to widths costs bound) (workOf table₀ p₀)) × Known from to table (p₀ .sums .count) low high marks
 
 abbrev μ-loop : tie.MeasureT-loop
 μ-loop from to widths head next head-in next-in costs bound g low₀ high₀ marks₀ table₀ p₀ h₀ low high marks table p h = g - h

@@ -1,7 +1,7 @@
 -- A closed cluster stays. The goal of any other is that of `worked`: it stays where this is its own part, else it moves, and the other ends of
 -- its edges are marked.
 use Rattle.pass.proofs.Work.{done-closed, goal-allowed, goal-marked, goal-paid, worked-stay, worked-move, placed-set}
-use Rattle.visit.proofs.Known.{known-moved}
+use Rattle.neighbours.proofs.Known.{known-moved}
 use mathlib.Core.Path.{refl, _∙_}
 use native.Mathlib.Omega.{arith}
 use borrow.Author.Needs.{needs}

@@ -1,3 +1,4 @@
+-- A place below 64 is a shift that keeps one bit.
 use lib.Pow.{shl-exact}
 use native.Mathlib.Nat.{one-mul}
 use native.Mathlib.Omega.{arith}

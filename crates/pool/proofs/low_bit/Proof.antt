@@ -1,3 +1,4 @@
+-- The lowest bit of a word that is not 0.
 use lib.Count.{trailing-le}
 use native.Mathlib.Omega.{arith}
 use borrow.Author.Needs.{needs}

@@ -1,8 +1,7 @@
-use lib.Count.{trailing-le, trailingZeros}
+-- The first word that is not empty holds the lowest number.
+use lib.Count.{trailing-le}
 use lib.ListN.{getD}
 use native.Mathlib.Omega.{arith}
-use mathlib.Core.Path.{_≡_}
-use Prim.Native.Nat.{_<_}
 use borrow.Author.Tests.{eq-eqb, ne-eqb}
 use borrow.Author.Needs.{needs}
 use Rattle.pool.specs.Pool.{lowestOf}

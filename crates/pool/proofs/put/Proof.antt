@@ -1,4 +1,4 @@
-use native.Mathlib.Omega.{arith}
+-- The bit is set, and the word is marked as not empty.
 use borrow.Author.Needs.{needs}
 use Rattle.pool.specs.Pool.{putOf}
 use Rattle.pool.proofs.put.Statement.{statement}

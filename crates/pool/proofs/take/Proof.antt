@@ -1,5 +1,5 @@
+-- The bit is cleared, and the mark of a word that is then empty.
 use borrow.Author.Tests.{eq-eqb, ne-eqb}
-use native.Mathlib.Omega.{arith}
 use borrow.Author.Needs.{needs}
 use Rattle.pool.specs.Pool.{takenOf}
 use Rattle.pool.proofs.take.Statement.{statement}

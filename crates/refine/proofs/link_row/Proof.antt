@@ -1,5 +1,5 @@
 -- On the rung itself the links are those lent; else they are made of the row's parts of the lists.
-use Rattle.refine.proofs.Down.{row-part}
+use Rattle.folds.proofs.Slices.{slice-part}
 use native.Mathlib.Omega.{arith}
 use borrow.Author.Needs.{needs}
 use Rattle.refine.proofs.link_row.Statement.{statement}
@@ -23,5 +23,5 @@ link-row-spec =
     (λ c. search needs)
     (λ c. search needs)
     (λ c. omega (arith, c .before .before .before .before .before .before .pre .0 .to-in, c .before .wide .ensures))
-    (λ c κs. let p = c .before .before .before .before .before .before .before .before .before .pre in rw (c .before .before .before .before .wide .ensures, row-part, row-part) (p .0 .ends, p .1 .0 .2))
-    (λ c. record { linked = rw (c .before .before .before .before .before .wide .ensures, row-part, row-part) at (c .link-leaving .ensures) }))
+    (λ c κs. let p = c .before .before .before .before .before .before .before .before .before .pre in rw (c .before .before .before .before .wide .ensures, slice-part, slice-part) (p .0 .ends, p .1 .0 .2))
+    (λ c. record { linked = rw (c .before .before .before .before .before .wide .ensures, slice-part, slice-part) at (c .link-leaving .ensures) }))

@@ -6,7 +6,7 @@ use Rattle.refine.specs.Rung.{Tracks}
 use Rattle.graph.specs.Coarse.{LinkedAt}
 use Rattle.graph.specs.Rows.{rowsIn}
 use Rattle.graph.specs.Graph.{graphOf}
-use Rattle.moves.specs.Pass.{refined}
+use Rattle.refinement.specs.Pass.{refined}
 use Prim.Native.Nat.{_+_, _-_, _≤_}
 use mathlib.Core.Path.{_≡_, sym, _∙_}
 use native.Mathlib.Omega.{arith}

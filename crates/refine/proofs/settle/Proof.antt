@@ -3,12 +3,12 @@ use Rattle.refine.proofs.Rung.{Stands, coarse-indexed, ready-few, ready
 use Rattle.refine.proofs.Bridge.{Drawn, pass-paid}
 use Rattle.pass.specs.Work.{workOf}
 use Rattle.graph.proofs.Totals.{zero-sums}
-use Rattle.visit.specs.Visit.{Indexed}
-use Rattle.visit.proofs.Laws.{ended-back}
-use Rattle.visit.specs.Known.{Known}
+use Rattle.neighbours.specs.Visit.{Indexed}
+use Rattle.neighbours.proofs.Laws.{ended-back}
+use Rattle.neighbours.specs.Known.{Known}
 use Rattle.graph.specs.Graph.{graphOf, through}
 use Rattle.graph.specs.Rows.{clusters}
-use Rattle.moves.specs.Pass.{tallyOf, measure, refinedOn}
+use Rattle.refinement.specs.Pass.{tallyOf, measure, refinedOn}
 use Rattle.folds.proofs.Cases.{not-yes, not-no}
 use mathlib.Core.Path.{_≡_, refl}
 use native.Mathlib.Omega.{arith}

@@ -1,6 +1,7 @@
+-- What is joined in local lists is copied behind the lists of the row before.
 use lib.Seq.{length-take-le}
 use native.Mathlib.Omega.{arith}
-use mathlib.Core.Path.{_≡_, refl, sym, ap, _∙_}
+use mathlib.Core.Path.{refl, sym}
 use Rattle.folds.proofs.Slices.{length-part}
 use Rattle.row_lists.proofs.Carrying.{handed, carry-inside, carry-joins, carry-few, carried}
 use borrow.Author.Needs.{needs}

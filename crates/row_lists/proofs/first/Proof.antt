@@ -1,8 +1,8 @@
+-- Row 0's lists are the graph's own.
 use lib.ListN.{length}
 use Rattle.folds.specs.Fold.{put}
 use mathlib.Core.Path.{refl, ap, _∙_}
 use lib.Seq.{take-all}
-use Rattle.folds.proofs.Slices.{length-put}
 use native.Mathlib.Omega.{arith}
 use borrow.Author.Needs.{needs}
 use Rattle.row_lists.proofs.first.Statement.{statement}

@@ -1,5 +1,6 @@
+-- The weights of the clusters below c are added to those of their new ones.
 use native.Mathlib.Omega.{arith}
-use mathlib.Core.Path.{_≡_, refl}
+use mathlib.Core.Path.{_≡_}
 use Prim.Native.Nat.{_≤_, _-_}
 use Rattle.row_lists.proofs.Merging.{merged-none, merged-turn, merged-room}
 use Rattle.row_lists.specs.Carry.{Merged}

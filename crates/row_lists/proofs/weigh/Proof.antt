@@ -1,3 +1,4 @@
+-- The costs of the vertices below v are the weights of their clusters.
 use lib.ListN.{length}
 use native.Mathlib.Omega.{arith}
 use Prim.Native.Nat.{_≤_, _-_}

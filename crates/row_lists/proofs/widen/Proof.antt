@@ -1,3 +1,4 @@
+-- The entries below i are copied.
 use lib.ListN.{length, take, length-set}
 use native.Mathlib.Omega.{arith}
 use mathlib.Core.Path.{_≡_, refl, sym, _∙_}

@@ -18,5 +18,5 @@ check-spec =
     (λ c κs. search needs)
     (λ c. (search (cases, told), refused-order))
     (λ c. (search (cases, told), refused-order))
-    (λ c κs. let p = c .before .before .before .before .before .before .before .before .before .before .before .before .before .before .pre in let z = sizes-fit _ _ _ _ _ (p .0) (told _ _ _ (c .before .before .before .before .before .before .before .before .before .bad-vertices .ensures) (c .before .before .before .before .before .before .before .before .if1 .left)) (told _ _ _ (c .before .before .before .before .before .bad-edges .ensures) (c .before .before .before .before .if3 .left)) in (z .0, (z .1 .0, z .1 .1, p .1, p .2)))
+    (λ c κs. let p = c .before .before .before .before .before .before .before .before .before .before .before .before .before .before .before .pre in let z = sizes-fit _ _ _ _ _ (p .0) (told _ _ _ (c .before .before .before .before .before .before .before .before .before .before .bad-vertices .ensures) (c .before .before .before .before .before .before .before .before .before .if1 .left)) (told _ _ _ (c .before .before .before .before .before .before .bad-edges .ensures) (c .before .before .before .before .before .if3 .left)) in (z .0, (z .1 .0, z .1 .1, p .1, p .2)))
     (λ c. (search (cases, told), c .check-costs .ensures .1)))

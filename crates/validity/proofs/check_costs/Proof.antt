@@ -14,5 +14,5 @@ check-costs-spec =
     (λ c. (search at-hit, refused-order))
     (λ c κs. search needs)
     (λ c. (search (at-hit, at-pass), refused-order))
-    (λ c κs. let p = c .before .before .before .before .before .before .before .before .before .before .before .pre in (ends-fit-left _ _ _ _ _ (p .0 .0) (p .0 .1) (p .1 .0) (c .before .before .before .before .bad-end .ensures) (c .before .before .before .if2 .left), (p .1 .2, p .1 .3)))
+    (λ c κs. let p = c .before .before .before .before .before .before .before .before .before .before .before .before .pre in (ends-fit-left _ _ _ _ _ (p .0 .0) (p .0 .1) (p .1 .0) (c .before .before .before .before .before .bad-end .ensures) (c .before .before .before .before .if2 .left), (p .1 .2, p .1 .3)))
     (λ c. (search at-pass, c .check-repeats .ensures .1)))

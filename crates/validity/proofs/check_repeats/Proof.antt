@@ -12,6 +12,6 @@ check-repeats-spec =
     (tie.spec
     (λ c κs. c .before .before .pre .0)
     (λ c. (at-hit _ _ _ _ _ (c .before .find-repeat .ensures .0) (c .if1 .taken), refused-order))
-    (λ c κs. let p = c .before .before .before .before .before .before .before .pre in let F = p .0 in (fit-ended F, (fit-inside F, (F .few, p .1 .0, p .1 .1))))
-    (λ c. (at-pass _ _ _ _ _ _ (c .before .before .before .before .before .before .find-repeat .ensures .0) (c .before .before .before .before .before .if1 .left) (at-hit _ _ _ _ _ (cycle-own (c .before .before .before .before .before .before .before .before .before .pre .0) (c .before .lowest-on-cycle .ensures .0)) (c .if2 .taken)), refused-order))
-    (λ c. let F = c .before .before .before .before .before .before .before .before .before .pre .0 in let l = c .before .lowest-on-cycle .ensures in (at-pass _ _ _ _ _ _ (c .before .before .before .before .before .before .find-repeat .ensures .0) (c .before .before .before .before .before .if1 .left) (at-pass _ _ _ _ _ _ (cycle-own F (l .0)) (c .if2 .left) refl), order-own F (l .1 .0) (l .1 .1))))
+    (λ c κs. let p = c .before .before .before .before .before .before .before .before .pre in let F = p .0 in (fit-ended F, (fit-inside F, (F .few, p .1 .0, p .1 .1))))
+    (λ c. (at-pass _ _ _ _ _ _ (c .before .before .before .before .before .before .before .find-repeat .ensures .0) (c .before .before .before .before .before .before .if1 .left) (at-hit _ _ _ _ _ (cycle-own (c .before .before .before .before .before .before .before .before .before .before .pre .0) (c .before .lowest-on-cycle .ensures .0)) (c .if2 .taken)), refused-order))
+    (λ c. let F = c .before .before .before .before .before .before .before .before .before .before .pre .0 in let l = c .before .lowest-on-cycle .ensures in (at-pass _ _ _ _ _ _ (c .before .before .before .before .before .before .before .find-repeat .ensures .0) (c .before .before .before .before .before .before .if1 .left) (at-pass _ _ _ _ _ _ (cycle-own F (l .0)) (c .if2 .left) refl), order-own F (l .0) (c .if2 .left) (l .1 .0) (l .1 .1 .0) (l .1 .1 .1))))

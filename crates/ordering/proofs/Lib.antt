@@ -1,0 +1,5 @@
+pub mod Waiting
+pub mod Opens
+pub mod Free
+pub mod Searching
+pub mod Sweeps
