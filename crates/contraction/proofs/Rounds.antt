@@ -10,8 +10,8 @@ use Rattle.folds.proofs.Cases.{either}
 use Rattle.folds.proofs.Searches.{max-ge, max-le}
 use Rattle.folds.proofs.Lists.{length-listTo}
 use Rattle.graph.specs.Walk.{Acyclic}
-use Rattle.graph.specs.Graph.{Graph, vertices, identity, seen, Edge, Formed, RowOf}
-use Rattle.graph.specs.Rows.{clusters, Hierarchy}
+use Rattle.graph.specs.Graph.{Graph, vertices, identity, seen, Edge, Formed}
+use Rattle.graph.specs.Rows.{clusters, Hierarchy, Layer}
 use Rattle.graph.proofs.Edges.{identity-row, identity-at}
 use Rattle.contraction.specs.Rules.{Round, Keeps}
 use Rattle.contraction.specs.Next.{mateOf, nextRow}
@@ -20,11 +20,9 @@ use Rattle.contraction.proofs.Mates.{mate-back, keeps-disjoint}
 use Rattle.contraction.proofs.Next.{Onto, below-clusters, length-next, next-at, next-onto}
 use Rattle.contraction.proofs.Join.{join-law}
 
--- what a round finds, and leaves
-pub record Sound (G : Graph) (row : List ℕ) : Type 0 where
-  pub row-of : RowOf G row (clusters row)
-  pub onto : Onto row
-  pub acyclic : Acyclic (Edge (seen G row))
+-- no cluster of a layer is empty, by its row alone
+pub layer-onto : {G : Graph} {row : List ℕ} → Layer G row → Onto row
+layer-onto L c h = let (v, lv, e) = L .onto c h in (v, rw (L .row-of .whole) lv, e)
 
 identity-length : (m : ℕ) → length (identity m) ≡ m
 unfolding identity
@@ -49,29 +47,29 @@ identity-clusters (suc n) = go (length (identity (suc n))) (identity-length (suc
           identity-at (suc n) n (omega arith),
         )
 
-pub bottom-sound : (G : Graph) → Acyclic (Edge (seen G (identity (vertices G)))) → Sound G (identity (vertices G))
-bottom-sound G ac =
+pub bottom-layer : (G : Graph) → Acyclic (Edge (seen G (identity (vertices G)))) → Layer G (identity (vertices G))
+bottom-layer G ac =
     record {
       row-of = rw (identity-clusters (vertices G)) (identity-row G);
-      onto = λ c l. let h : c < vertices G = rw (identity-clusters (vertices G)) at l in (c, rw (identity-row G .whole) h, identity-at (vertices G) c h);
+      onto = λ c l. let h : c < vertices G = rw (identity-clusters (vertices G)) at l in (c, h, identity-at (vertices G) c h);
       acyclic = ac;
     }
 
-pub next-sound : (G : Graph) (row : List ℕ) (ps : Round) → Formed G → Sound G row → Keeps (seen G row) (clusters row) ps → Sound G (nextRow row ps)
-next-sound G row ps F S K =
+pub next-layer : (G : Graph) (row : List ℕ) (ps : Round) → Formed G → Layer G row → Keeps (seen G row) (clusters row) ps → Layer G (nextRow row ps)
+next-layer G row ps F S K =
     record {
       row-of = record {
         whole = length-next row (mateOf ps) ∙ S .row-of .whole;
         below = λ v l. below-clusters (nextRow row ps) v (rw (length-next row (mateOf ps), S .row-of .whole) l);
       };
-      onto = next-onto row (mateOf ps) (mate-back ps (keeps-disjoint K));
-      acyclic = join-law G row ps F (S .row-of) (S .onto) K (S .acyclic);
+      onto = λ c h. let (v, lv, e) = next-onto row (mateOf ps) (mate-back ps (keeps-disjoint K)) c h in (v, omega (arith, length-next row (mateOf ps), S .row-of .whole), e);
+      acyclic = join-law G row ps F (S .row-of) (layer-onto S) K (S .acyclic);
     }
 
-pub after-sound : (G : Graph) → Formed G → (row : List ℕ) (rs : List Round) → Sound G row → AllKeep G row rs → (i : ℕ) → Sound G (rowAfter row (take i rs))
-after-sound G F row rs S K zero = S
-after-sound G F row [] S K (suc i) = S
-after-sound G F row (ps ∷ rs) S (k, K) (suc i) = after-sound G F (nextRow row ps) rs (next-sound G row ps F S k) K i
+pub after-layer : (G : Graph) → Formed G → (row : List ℕ) (rs : List Round) → Layer G row → AllKeep G row rs → (i : ℕ) → Layer G (rowAfter row (take i rs))
+after-layer G F row rs S K zero = S
+after-layer G F row [] S K (suc i) = S
+after-layer G F row (ps ∷ rs) S (k, K) (suc i) = after-layer G F (nextRow row ps) rs (next-layer G row ps F S k) K i
 
 -- one round more, or the list has ended
 row-step : (row : List ℕ) (rs : List Round) (r : ℕ)
@@ -85,7 +83,7 @@ row-step row (ps ∷ rs) (suc r) = row-step (nextRow row ps) rs r
 pub rounds-acyclic : (G : Graph) → Formed G → Acyclic (Edge (seen G (identity (vertices G))))
     → (rs : List Round) → AllKeep G (identity (vertices G)) rs
     → (i : ℕ) → Acyclic (Edge (seen G (rowAfter (identity (vertices G)) (take i rs))))
-rounds-acyclic G F ac rs K i = after-sound G F (identity (vertices G)) rs (bottom-sound G ac) K i .acyclic
+rounds-acyclic G F ac rs K i = after-layer G F (identity (vertices G)) rs (bottom-layer G ac) K i .acyclic
 
 -- the rows of such a list are a hierarchy
 pub kept-hierarchy : (G : Graph) → Formed G → Acyclic (Edge (seen G (identity (vertices G))))
@@ -94,9 +92,7 @@ pub kept-hierarchy : (G : Graph) → Formed G → Acyclic (Edge (seen G (identit
 kept-hierarchy G F ac rs K top =
     record {
       bottom = refl;
-      row = λ r l. S r .row-of;
-      onto = λ r l c h. let (v, lv, e) = S r .onto c h in (v, rw (S r .row-of .whole) at lv, e);
-      acyclic = λ r l. S r .acyclic;
+      layer = λ r l. S r;
       refines = λ r l a b la lb e.
           either (row-step (identity (vertices G)) rs r)
           (λ q. rw q e)
@@ -106,5 +102,5 @@ kept-hierarchy G F ac rs K top =
     rows : ℕ → List ℕ
     rows r = rowAfter (identity (vertices G)) (take r rs)
 
-    S : (r : ℕ) → Sound G (rowAfter (identity (vertices G)) (take r rs))
-    S r = after-sound G F (identity (vertices G)) rs (bottom-sound G ac) K r
+    S : (r : ℕ) → Layer G (rowAfter (identity (vertices G)) (take r rs))
+    S r = after-layer G F (identity (vertices G)) rs (bottom-layer G ac) K r

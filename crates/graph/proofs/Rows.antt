@@ -28,11 +28,8 @@ onto-few n g f below onto =
     let b : sumTo n (λ v. sumTo g (λ c. at c v)) ≡ sumTo n (λ v. 1) = sumTo-ext n _ _ (λ v h. sumTo-only g (f v) (λ c. 1) (below v h)) in
     omega (arith, sumTo-swap g n at, ones g, ones n)
 
-pub hierarchy-layer : {G : Graph} {rows : ℕ → List ℕ} {top : ℕ} → Hierarchy G rows top → (r : ℕ) → r ≤ top → Layer G (rows r)
-hierarchy-layer H r l = record { is-row = H .row r l; onto = H .onto r l; acyclic = H .acyclic r l }
-
 pub few-clusters : {G : Graph} {rows : ℕ → List ℕ} {top : ℕ} → Hierarchy G rows top → (r : ℕ) → r ≤ top → clusters (rows r) ≤ vertices G
-few-clusters {G} {rows} H r l = onto-few (vertices G) (clusters (rows r)) (λ v. getD (rows r) v 0) (H .row r l .below) (H .onto r l)
+few-clusters {G} {rows} H r l = onto-few (vertices G) (clusters (rows r)) (λ v. getD (rows r) v 0) (H .layer r l .row-of .below) (H .layer r l .onto)
 
 -- edges between the vertices of a row or a table
 pub proper-joins : {G : Graph} → Proper G → (row : List ℕ) → length row ≡ vertices G → ((v : ℕ) → v < length row → getD row v 0 < 512) → Joins row (G .starts) (G .ends)

@@ -17,7 +17,7 @@ rowsIn rows n r = part rows (r * n) n
 
 -- one row of a hierarchy: each vertex has a cluster, no cluster is empty, and they form no cycle
 pub record Layer (G : Graph) (row : List ℕ) : Type 0 where
-  pub is-row : RowOf G row (clusters row)
+  pub row-of : RowOf G row (clusters row)
   pub onto : (c : ℕ) → c < clusters row → (v : ℕ) × (v < vertices G) × (getD row v 0 ≡ c)
   pub acyclic : Acyclic (Edge (seen G row))
 
@@ -25,10 +25,6 @@ pub record Layer (G : Graph) (row : List ℕ) : Type 0 where
 pub record Hierarchy (G : Graph) (rows : ℕ → List ℕ) (top : ℕ) : Type 0 where
   -- rung 0 is the blocks
   pub bottom : rows 0 ≡ identity (vertices G)
-  -- each row gives each vertex a cluster, and no cluster is empty
-  pub row : (r : ℕ) → r ≤ top → RowOf G (rows r) (clusters (rows r))
-  pub onto : (r : ℕ) → r ≤ top → (c : ℕ) → c < clusters (rows r) → (v : ℕ) × (v < vertices G) × (getD (rows r) v 0 ≡ c)
-  -- the clusters of a row form no cycle
-  pub acyclic : (r : ℕ) → r ≤ top → Acyclic (Edge (seen G (rows r)))
+  pub layer : (r : ℕ) → r ≤ top → Layer G (rows r)
   -- what a row joins, the row above joins
   pub refines : (r : ℕ) → r < top → (a b : ℕ) → a < vertices G → b < vertices G → getD (rows r) a 0 ≡ getD (rows r) b 0 → getD (rows (suc r)) a 0 ≡ getD (rows (suc r)) b 0

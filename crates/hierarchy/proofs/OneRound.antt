@@ -13,7 +13,7 @@ use Rattle.folds.specs.Fold.{part}
 use Rattle.folds.proofs.Sums.{countTo-le}
 use Rattle.folds.proofs.Slices.{put-part, length-part, take-over, length-over}
 use Rattle.graph.specs.Graph.{Graph, vertices, seen, RowOf}
-use Rattle.graph.specs.Rows.{clusters}
+use Rattle.graph.specs.Rows.{clusters, rowsIn}
 use Rattle.graph.proofs.Edges.{row-inside}
 use Rattle.contraction.specs.Rules.{Keeps}
 use Rattle.contraction.specs.Next.{mateOf, joinedRow, nextRow, lowestOf, leads}
@@ -25,7 +25,7 @@ use Rattle.matching.specs.Choice.{roundOf}
 use Rattle.matching.specs.Contracts.{RoundReady, Matched}
 use Rattle.matching.proofs.Choices.{round-keeps}
 use Rattle.hierarchy.specs.Rounds.{large, poor, kept}
-use Rattle.hierarchy.specs.Contracts.{rowAt, JoinedRow}
+use Rattle.hierarchy.specs.Contracts.{JoinedRow}
 
 -- a round's mates, and the row they give
 module _ {G : Graph} {row : List ℕ} {g : ℕ} (bound : ℕ) (R : RoundReady G row g) where
@@ -76,12 +76,12 @@ rows-in r n m l h = omega (arith, suc-mul r n, mul-le-mul-right n l)
 pub place-low : (r n : ℕ) → r < 8 → n ≤ 512 → r * n ≤ 4096
 place-low r n l h = omega (arith, suc-mul r n, mul-le-mul-right n l)
 
-module _ (G : Graph) (k bound r g : ℕ) (rows : List ℕ) (R : RoundReady G (rowAt G rows r) g) where
+module _ (G : Graph) (k bound r g : ℕ) (rows : List ℕ) (R : RoundReady G (rowsIn rows (vertices G) r) g) where
   abbrev n : ℕ
   n = vertices G
 
   abbrev row : List ℕ
-  row = rowAt G rows r
+  row = rowsIn rows (vertices G) r
 
   pub joined-small : g ≤ 2 * k → JoinedRow G k bound r rows rows 0
   unfolding kept large

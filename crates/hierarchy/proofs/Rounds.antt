@@ -13,26 +13,26 @@ use Rattle.folds.proofs.Cases.{by}
 use Rattle.folds.proofs.Slices.{wrote-done, put-part, length-put}
 use Rattle.folds.proofs.Parts.{wrote-part, part-put, drop-put}
 use Rattle.graph.specs.Graph.{Graph, vertices, identity, seen}
-use Rattle.graph.specs.Rows.{clusters}
+use Rattle.graph.specs.Rows.{clusters, Layer, rowsIn}
 use Rattle.graph.proofs.Edges.{identity-row}
 use Rattle.contraction.specs.Rules.{Keeps}
 use Rattle.contraction.specs.Next.{mateOf, nextRow}
 use Rattle.contraction.proofs.Next.{length-next, below-clusters}
-use Rattle.contraction.proofs.Rounds.{Sound, bottom-sound, next-sound, identity-clusters}
+use Rattle.contraction.proofs.Rounds.{bottom-layer, next-layer, identity-clusters}
 use Rattle.matching.specs.Choice.{roundOf}
 use Rattle.matching.specs.Contracts.{RoundReady}
 use Rattle.matching.proofs.Choices.{round-keeps}
 use Rattle.hierarchy.specs.Rounds.{kept, above, rowsOf, keptOf, flat, rowsAfter}
-use Rattle.hierarchy.specs.Contracts.{rowAt, JoinedRow, Buildable, Built}
+use Rattle.hierarchy.specs.Contracts.{JoinedRow, Buildable, Built}
 use Rattle.hierarchy.proofs.OneRound.{next-few, length-taken, rows-in}
 
 -- the rounds so far: row r and those below are in place, and what is above it is still to come
 pub record JoiningRows (G : Graph) (k bound : ℕ) (rows₀ rows : List ℕ) (r g : ℕ) : Type 0 where
-  pub sound : Sound G (rowAt G rows r)
-  pub count : g ≡ clusters (rowAt G rows r)
+  pub sound : Layer G (rowsIn rows (vertices G) r)
+  pub count : g ≡ clusters (rowsIn rows (vertices G) r)
   pub few : g ≤ vertices G
-  pub wrote : Wrote rows₀ rows (r * vertices G + vertices G) (flat (above G k bound (8 - r) (rowAt G rows r))) (flat (rowsOf G k bound))
-  pub kept-so : r + length (above G k bound (8 - r) (rowAt G rows r)) ≡ keptOf G k bound
+  pub wrote : Wrote rows₀ rows (r * vertices G + vertices G) (flat (above G k bound (8 - r) (rowsIn rows (vertices G) r))) (flat (rowsOf G k bound))
+  pub kept-so : r + length (above G k bound (8 - r) (rowsIn rows (vertices G) r)) ≡ keptOf G k bound
 
 -- no round is kept: nothing is above
 kept-no : (G : Graph) (k bound f : ℕ) (row : List ℕ) → kept G k bound row (roundOf G bound row) ≡ false → above G k bound (suc f) row ≡ []
@@ -68,7 +68,7 @@ module _ (G : Graph) (rows : List ℕ) (room : 9 * vertices G ≤ length rows) w
       let lt : length (take (vertices G - 0) (drop 0 rows)) ≡ vertices G = rw z (length-taken rows 0 (vertices G) (omega arith)) in
       put-part rows (identity (vertices G)) q 0 (vertices G - 0) (e ∙ ap identity lt) (z ∙ sym (identity-row G .whole))
 
-  first-row-is : rowAt G (put rows 0 (identity (vertices G))) 0 ≡ identity (vertices G)
+  first-row-is : rowsIn (put rows 0 (identity (vertices G))) (vertices G) 0 ≡ identity (vertices G)
   first-row-is =
       let z : 0 * vertices G ≡ 0 = omega arith in
       let h = part-put rows (identity (vertices G)) 0 (omega (arith, identity-row G .whole)) in
@@ -83,7 +83,7 @@ module _ (G : Graph) (rows : List ℕ) (room : 9 * vertices G ≤ length rows) w
   pub first-same : {q : List ℕ} → q ≡ identity (length (take (vertices G - 0) (drop 0 rows))) → length (putMid 0 (vertices G - 0) rows q) ≡ length rows
   first-same e = rw (first-put e) first-length
 
-  pub first-front : {q : List ℕ} → q ≡ identity (length (take (vertices G - 0) (drop 0 rows))) → rowAt G (putMid 0 (vertices G - 0) rows q) 0 ≡ identity (vertices G)
+  pub first-front : {q : List ℕ} → q ≡ identity (length (take (vertices G - 0) (drop 0 rows))) → rowsIn (putMid 0 (vertices G - 0) rows q) (vertices G) 0 ≡ identity (vertices G)
   first-front e = rw (first-put e) first-row-is
 
   -- the rows afterwards does not depend on what stood in row 0
@@ -93,7 +93,7 @@ module _ (G : Graph) (rows : List ℕ) (room : 9 * vertices G ≤ length rows) w
       ap (λ (z : List ℕ). (identity (vertices G) ++ flat above) ++ z)
       (drop-past rows (identity (vertices G)) (length (identity (vertices G) ++ flat above)) (omega (arith, identity-row G .whole)) (simp length-append (omega arith)))
 
-module _ (G : Graph) (k bound : ℕ) (B : Buildable G k) (rows₀ : List ℕ) (room : 9 * vertices G ≤ length rows₀) (front : rowAt G rows₀ 0 ≡ identity (vertices G)) where
+module _ (G : Graph) (k bound : ℕ) (B : Buildable G k) (rows₀ : List ℕ) (room : 9 * vertices G ≤ length rows₀) (front : rowsIn rows₀ (vertices G) 0 ≡ identity (vertices G)) where
   abbrev n : ℕ
   n = vertices G
 
@@ -109,7 +109,7 @@ module _ (G : Graph) (k bound : ℕ) (B : Buildable G k) (rows₀ : List ℕ) (r
   unfolding keptOf
   joining-start =
       record {
-        sound = rw front (bottom-sound G (B .acyclic));
+        sound = rw front (bottom-layer G (B .acyclic));
         count = rw front (sym (identity-clusters n));
         few = omega arith;
         wrote = rw front start-wrote;
@@ -118,7 +118,7 @@ module _ (G : Graph) (k bound : ℕ) (B : Buildable G k) (rows₀ : List ℕ) (r
 
   module _ {rows : List ℕ} {r g : ℕ} (C : JoiningRows G k bound rows₀ rows r g) where
     abbrev row : List ℕ
-    row = rowAt G rows r
+    row = rowsIn rows (vertices G) r
 
     pub joining-ready : RoundReady G row g
     joining-ready =
@@ -173,7 +173,7 @@ module _ (G : Graph) (k bound : ℕ) (B : Buildable G k) (rows₀ : List ℕ) (r
       inside : r * n + n + length next ≤ length rows
       inside = omega (arith, next-length, rows-in r n (length rows) lr (omega (arith, joining-length)))
 
-      next-row : rowAt G (put rows (r * n + n) next) (r + 1) ≡ next
+      next-row : rowsIn (put rows (r * n + n) next) (vertices G) (r + 1) ≡ next
       next-row = rw place (rw next-length at (part-put rows next (r * n + n) inside))
 
       next-wrote : kept G k bound row (roundOf G bound row) ≡ true
@@ -188,7 +188,7 @@ module _ (G : Graph) (k bound : ℕ) (B : Buildable G k) (rows₀ : List ℕ) (r
       made : kept G k bound row (roundOf G bound row) ≡ true → JoiningRows G k bound rows₀ (put rows (r * n + n) next) (r + 1) (clusters next)
       made t =
           record {
-            sound = rw next-row (next-sound G row (roundOf G bound row) (B .proper .formed) (C .sound) K);
+            sound = rw next-row (next-layer G row (roundOf G bound row) (B .proper .formed) (C .sound) K);
             count = rw next-row refl;
             few = omega (arith, next-few bound joining-ready, C .sound .row-of .whole);
             wrote = rw next-row (next-wrote t);

@@ -5,6 +5,7 @@ use mathlib.Core.List.{List}
 use native.Mathlib.Omega.{arith}
 use lib.ListN.{length, getD, take, length-set}
 use lib.Seq.{getD-set-same, length-take-le, take-all}
+use Rattle.graph.specs.Rows.{rowsIn}
 use Rattle.folds.specs.Fold.{sumTo, over, put, part, zeros, mostCost, mostWidth}
 use Rattle.folds.proofs.Sums.{sumTo-le}
 use Rattle.folds.proofs.Lists.{getD-past}
@@ -20,7 +21,7 @@ use Rattle.topology.proofs.Orders.{order-all}
 use Rattle.contraction.proofs.Rounds.{identity-clusters}
 use Rattle.matching.proofs.Lists.{cost-identity}
 use Rattle.row_lists.specs.Carry.{First}
-use Rattle.hierarchy.specs.Contracts.{rowAt, Carried, Carrying, LevelsAt, RowsRoom, Buildable}
+use Rattle.hierarchy.specs.Contracts.{Carried, Carrying, LevelsAt, RowsRoom, Buildable}
 
 module _ (G : Graph) (k : ℕ) (B : Buildable G k) where
   abbrev n : ℕ
@@ -80,8 +81,8 @@ module _ (G : Graph) (k : ℕ) (B : Buildable G k) where
         let h : length (take n orders) ≡ n = length-take-le n orders (omega (arith, M .order-room)) in
         rw y (take-all n (take n orders) (omega arith) ∙ o)
 
-    pub first-carried : (rows′ : List ℕ) → rowAt G rows′ 0 ≡ identity n → sumTo m (λ j. getD (G .widths) j 0) ≤ mostWidth
-        → take n orders ≡ orderOf (arcs (identity n) (G .starts) (G .ends)) n → Carried G (rowAt G rows′) 0 froms′ tos′ widths′ sizes′ orders
+    pub first-carried : (rows′ : List ℕ) → rowsIn rows′ (vertices G) 0 ≡ identity n → sumTo m (λ j. getD (G .widths) j 0) ≤ mostWidth
+        → take n orders ≡ orderOf (arcs (identity n) (G .starts) (G .ends)) n → Carried G (rowsIn rows′ (vertices G)) 0 froms′ tos′ widths′ sizes′ orders
     first-carried rows′ e narrow o =
         let K = first-kept rows (M .row-room) in
         let z : getD sizes′ 0 0 ≡ m = rw (F .sizes-are) (getD-set-same sizes 0 m 0 (omega (arith, M .nine))) in
@@ -138,8 +139,8 @@ module _ (G : Graph) (k : ℕ) (B : Buildable G k) where
           ) (rw own at e);
         }
 
-  pub first-carrying : (rows : List ℕ) {froms tos widths sizes orders weights : List ℕ} → rowAt G rows 0 ≡ identity n → sumTo n (λ v. getD (G .costs) v 0) ≤ mostCost
-      → Carried G (rowAt G rows) 0 froms tos widths sizes orders → length weights ≡ 512 → ((c : ℕ) → getD weights c 0 ≡ getD (G .costs) c 0)
+  pub first-carrying : (rows : List ℕ) {froms tos widths sizes orders weights : List ℕ} → rowsIn rows (vertices G) 0 ≡ identity n → sumTo n (λ v. getD (G .costs) v 0) ≤ mostCost
+      → Carried G (rowsIn rows (vertices G)) 0 froms tos widths sizes orders → length weights ≡ 512 → ((c : ℕ) → getD weights c 0 ≡ getD (G .costs) c 0)
       → ((c : ℕ) → getD (G .costs) c 0 ≤ 65535) → Carrying G rows 0 n froms tos widths sizes orders weights
   first-carrying rows e light C tall h low =
       record {

@@ -12,7 +12,7 @@ use Rattle.folds.proofs.Sums.{sumTo-ext}
 use Rattle.folds.proofs.Slices.{length-part, length-put, length-over, take-over}
 use Rattle.folds.proofs.Parts.{part-put}
 use Rattle.graph.specs.Graph.{Graph, vertices, edges, joining, seen, partCost, through, Proper, RowOf}
-use Rattle.graph.specs.Rows.{clusters}
+use Rattle.graph.specs.Rows.{clusters, Layer, rowsIn}
 use Rattle.graph.specs.Coarse.{Coarse, LinkedAt}
 use Rattle.graph.specs.Links.{Linked, leave}
 use Rattle.topology.specs.Order.{orderOf}
@@ -22,7 +22,7 @@ use Rattle.graph.proofs.Edges.{row-inside}
 use Rattle.contraction.specs.Next.{mateOf, nextRow}
 use Rattle.contraction.specs.Contracts.{Renamed}
 use Rattle.contraction.proofs.Next.{length-next, below-clusters}
-use Rattle.contraction.proofs.Rounds.{Sound, next-sound}
+use Rattle.contraction.proofs.Rounds.{next-layer}
 use Rattle.joined_edges.proofs.Lists.{joined-twice}
 use Rattle.matching.specs.Choice.{roundOf}
 use Rattle.matching.specs.Contracts.{RoundReady}
@@ -30,7 +30,7 @@ use Rattle.matching.proofs.Choices.{round-keeps}
 use Rattle.row_lists.specs.Carry.{Maps}
 use Rattle.row_lists.proofs.Carrying.{handed}
 use Rattle.hierarchy.specs.Rounds.{kept}
-use Rattle.hierarchy.specs.Contracts.{Carries, rowAt, JoinedRow, Carrying, LevelsAt, RowsRoom, HandsOn, HandedOn}
+use Rattle.hierarchy.specs.Contracts.{Carries, JoinedRow, Carrying, LevelsAt, RowsRoom, HandsOn, HandedOn}
 use Rattle.hierarchy.proofs.OneRound.{next-few, rows-in}
 use Rattle.hierarchy.proofs.Handing.{next-place}
 use Rattle.hierarchy.proofs.Carrying.{coarse-order}
@@ -45,7 +45,7 @@ pub levels-handed : {m r g s : ℕ} {froms tos sizes levels : List ℕ} → s �
     → levels ≡ over (levelsOf (joining (take (r * m + s - r * m) (drop (r * m) froms)) (take (r * m + s - r * m) (drop (r * m) tos))) g) (zeros 512)
 levels-handed {m} {r} {g} {s} {froms} {tos} e L = rw (handed froms (r * m) s, handed tos (r * m) s, e) (L .are)
 
-module _ {G : Graph} {rows : List ℕ} {r g : ℕ} {froms tos widths sizes orders weights : List ℕ} (R : RoundReady G (rowAt G rows r) g) (S : Sound G (rowAt G rows r))
+module _ {G : Graph} {rows : List ℕ} {r g : ℕ} {froms tos widths sizes orders weights : List ℕ} (R : RoundReady G (rowsIn rows (vertices G) r) g) (S : Layer G (rowsIn rows (vertices G) r))
     (C : Carrying G rows r g froms tos widths sizes orders weights) (small : g ≤ vertices G) where
   abbrev n : ℕ
   n = vertices G
@@ -54,7 +54,7 @@ module _ {G : Graph} {rows : List ℕ} {r g : ℕ} {froms tos widths sizes order
   m = edges G
 
   abbrev row : List ℕ
-  row = rowAt G rows r
+  row = rowsIn rows (vertices G) r
 
   pub size-few : getD sizes r 0 ≤ m
   size-few = C .carried .lists .few r (omega arith)
@@ -120,7 +120,7 @@ module _ {G : Graph} {rows : List ℕ} {r g : ℕ} {froms tos widths sizes order
     next = nextRow row (roundOf G bound row)
 
     next-row : RowOf G next (clusters next)
-    next-row = next-sound G row (roundOf G bound row) (P .formed) S (round-keeps G bound row (P .formed) (S .row-of)) .row-of
+    next-row = next-layer G row (roundOf G bound row) (P .formed) S (round-keeps G bound row (P .formed) (S .row-of)) .row-of
 
     next-length : length next ≡ length row
     next-length = length-next row (mateOf (roundOf G bound row))
@@ -149,10 +149,10 @@ module _ {G : Graph} {rows : List ℕ} {r g : ℕ} {froms tos widths sizes order
       fits : r * n + n + n ≤ length rows
       fits = rows-in r n (length rows) lr room
 
-      row-new : rowAt G rows′ (r + 1) ≡ next
+      row-new : rowsIn rows′ (vertices G) (r + 1) ≡ next
       row-new = rw (e, next-of r n) (rw long at (part-put rows next (r * n + n) (omega (arith, long, fits))))
 
-      row-old : (q : ℕ) → q ≤ r → rowAt G rows′ q ≡ rowAt G rows q
+      row-old : (q : ℕ) → q ≤ r → rowsIn rows′ (vertices G) q ≡ rowsIn rows (vertices G) q
       row-old q l = rw e (part-before rows next (r * n + n) (q * n) n (omega (arith, long, fits)) (omega (arith, mul-le-mul-right n l)))
 
       joined : Coarse G next (clusters next) (H .next .from) (H .next .to) (H .next .width)
@@ -173,7 +173,7 @@ module _ {G : Graph} {rows : List ℕ} {r g : ℕ} {froms tos widths sizes order
       order-length =
           ap length order-is
           ∙ order-all (seen G next) (clusters next) (row-inside (P .formed) next-row)
-          (next-sound G row (roundOf G bound row) (P .formed) S (round-keeps G bound row (P .formed) (S .row-of)) .acyclic)
+          (next-layer G row (roundOf G bound row) (P .formed) S (round-keeps G bound row (P .formed) (S .row-of)) .acyclic)
 
       order-fits : r * n + n + n ≤ length orders
       order-fits = rows-in r n (length orders) lr (M .order-room)
@@ -185,7 +185,7 @@ module _ {G : Graph} {rows : List ℕ} {r g : ℕ} {froms tos widths sizes order
       new-order =
           rw (H .orders-are, next-of r n, rw placed-length at (part-put orders placed (r * n + n) (omega (arith, placed-length, order-fits))), take-over order (part orders (r * n + n) n) (clusters next) order-length) order-is
 
-      old-order : (q : ℕ) → q ≤ r → take (clusters (rowAt G rows q)) (part orders′ (q * n) n) ≡ orderOf (seen G (rowAt G rows q)) (clusters (rowAt G rows q))
+      old-order : (q : ℕ) → q ≤ r → take (clusters (rowsIn rows (vertices G) q)) (part orders′ (q * n) n) ≡ orderOf (seen G (rowsIn rows (vertices G) q)) (clusters (rowsIn rows (vertices G) q))
       old-order q l =
           rw (H .orders-are, part-before orders placed (r * n + n) (q * n) n (omega (arith, placed-length, order-fits)) (omega (arith, mul-le-mul-right n l))) (C .carried .order q l)
 
@@ -226,12 +226,12 @@ list-fits r m size x e l h = omega (arith, suc-mul r m)
 
 -- a round that was kept, and one that was not
 pub joined-some : {G : Graph} {k bound r : ℕ} {rows rows′ : List ℕ} {x : ℕ} → JoinedRow G k bound r rows rows′ x → (x ≡ 0 → ⊥)
-    → (rows′ ≡ put rows (r * vertices G + vertices G) (nextRow (rowAt G rows r) (roundOf G bound (rowAt G rows r)))) × (x ≡ clusters (nextRow (rowAt G rows r) (roundOf G bound (rowAt G rows r))))
+    → (rows′ ≡ put rows (r * vertices G + vertices G) (nextRow (rowsIn rows (vertices G) r) (roundOf G bound (rowsIn rows (vertices G) r)))) × (x ≡ clusters (nextRow (rowsIn rows (vertices G) r) (roundOf G bound (rowsIn rows (vertices G) r))))
 joined-some {G} {k} {bound} {r} {rows} {rows′} {x} D z =
-    by (kept G k bound (rowAt G rows r) (roundOf G bound (rowAt G rows r))) (λ t. (rw t at (D .rows-are), rw t at (D .answer-is))) (λ t. let a : x ≡ 0 = rw t at (D .answer-is) in absurd (z a))
+    by (kept G k bound (rowsIn rows (vertices G) r) (roundOf G bound (rowsIn rows (vertices G) r))) (λ t. (rw t at (D .rows-are), rw t at (D .answer-is))) (λ t. let a : x ≡ 0 = rw t at (D .answer-is) in absurd (z a))
 
-pub joined-none : {G : Graph} {k bound r g : ℕ} {rows rows′ : List ℕ} {x : ℕ} → Proper G → RoundReady G (rowAt G rows r) g → JoinedRow G k bound r rows rows′ x → x ≡ 0 → rows′ ≡ rows
+pub joined-none : {G : Graph} {k bound r g : ℕ} {rows rows′ : List ℕ} {x : ℕ} → Proper G → RoundReady G (rowsIn rows (vertices G) r) g → JoinedRow G k bound r rows rows′ x → x ≡ 0 → rows′ ≡ rows
 joined-none {G} {k} {bound} {r} {g} {rows} {rows′} {x} P R D z =
-    let next = nextRow (rowAt G rows r) (roundOf G bound (rowAt G rows r)) in
-    let some = below-clusters next 0 (omega (arith, length-next (rowAt G rows r) (mateOf (roundOf G bound (rowAt G rows r))), R .row-of .whole, P .some)) in
-    by (kept G k bound (rowAt G rows r) (roundOf G bound (rowAt G rows r))) (λ t. let a : x ≡ clusters next = rw t at (D .answer-is) in absurd (omega arith)) (λ t. rw t at (D .rows-are))
+    let next = nextRow (rowsIn rows (vertices G) r) (roundOf G bound (rowsIn rows (vertices G) r)) in
+    let some = below-clusters next 0 (omega (arith, length-next (rowsIn rows (vertices G) r) (mateOf (roundOf G bound (rowsIn rows (vertices G) r))), R .row-of .whole, P .some)) in
+    by (kept G k bound (rowsIn rows (vertices G) r) (roundOf G bound (rowsIn rows (vertices G) r))) (λ t. let a : x ≡ clusters next = rw t at (D .answer-is) in absurd (omega arith)) (λ t. rw t at (D .rows-are))

@@ -7,13 +7,14 @@ use native.Mathlib.Omega.{arith}
 use lib.Dec.{ltb}
 use lib.ListN.{length, getD, take}
 use borrow.Author.Tests.{lt-ltb, le-ltb, ltb-true, ltb-false}
+use Rattle.graph.specs.Rows.{Layer}
 use Rattle.folds.specs.Fold.{pick, when}
 use Rattle.folds.proofs.Cases.{by}
 use Rattle.graph.specs.Graph.{Graph, Formed}
 use Rattle.contraction.specs.Rules.{Round}
 use Rattle.contraction.specs.Next.{nextRow}
 use Rattle.contraction.specs.Rounds.{rowAfter, AllKeep}
-use Rattle.contraction.proofs.Rounds.{Sound, next-sound}
+use Rattle.contraction.proofs.Rounds.{next-layer}
 use Rattle.matching.specs.Choice.{roundOf}
 use Rattle.matching.proofs.Choices.{round-keeps}
 use Rattle.hierarchy.specs.Rounds.{large, poor, kept, above}
@@ -60,12 +61,12 @@ module _ (G : Graph) (k bound : ℕ) where
       (λ t. ([], rw (small-row f row t) (ends t)))
 
   -- the rounds tried keep the rules
-  pub run-keep : Formed G → {f : ℕ} {row : List ℕ} {rows : List (List ℕ)} {rs : List Round} → Run f row rows rs → Sound G row → AllKeep G row rs
+  pub run-keep : Formed G → {f : ℕ} {row : List ℕ} {rows : List (List ℕ)} {rs : List Round} → Run f row rows rs → Layer G row → AllKeep G row rs
   run-keep F full S = tt
   run-keep F (ends t) S = tt
   run-keep F (drops {row = row} t p) S = (round-keeps G bound row F (S .row-of), tt)
   run-keep F (keeps {row = row} t p R) S =
-      let K = round-keeps G bound row F (S .row-of) in (K, run-keep F R (next-sound G row (roundOf G bound row) F S K))
+      let K = round-keeps G bound row F (S .row-of) in (K, run-keep F R (next-layer G row (roundOf G bound row) F S K))
 
   -- each is the choice on its own row
   pub run-chosen : {f : ℕ} {row : List ℕ} {rows : List (List ℕ)} {rs : List Round} → Run f row rows rs

@@ -6,7 +6,7 @@ use lib.ListN.{length, getD, set, take}
 use Rattle.folds.specs.Fold.{pick, when, sumTo, over, put, part, zeros, mostCost}
 use Rattle.graph.specs.Walk.{Acyclic}
 use Rattle.graph.specs.Graph.{Graph, vertices, edges, identity, joining, seen, Edge, partCost, Proper}
-use Rattle.graph.specs.Rows.{clusters}
+use Rattle.graph.specs.Rows.{clusters, rowsIn}
 use Rattle.graph.specs.Coarse.{Coarse, Stored, LinkedAt}
 use Rattle.topology.specs.Order.{orderOf, InOrder}
 use Rattle.topology.specs.Level.{levelsOf}
@@ -25,21 +25,17 @@ pub record Carries (G : Graph) (row : List ℕ) (g : ℕ) (weights froms tos wid
   pub costs : (c : ℕ) → getD weights c 0 ≡ partCost (G .costs) row c
   pub ordered : InOrder (seen G row) g order
 
--- row r of those that lie end to end
-abbrev pub rowAt : Graph → List ℕ → ℕ → List ℕ
-rowAt G rows r = part rows (r * vertices G) (vertices G)
-
 -- a round on row r: where it is kept, its row stands after row r, and it answers how many clusters that has; else 0, and all is as it was
 pub record JoinedRow (G : Graph) (k bound r : ℕ) (rows rows′ : List ℕ) (answer : ℕ) : Type 0 where
-  pub rows-are : rows′ ≡ pick (kept G k bound (rowAt G rows r) (roundOf G bound (rowAt G rows r)))
-      (put rows (r * vertices G + vertices G) (nextRow (rowAt G rows r) (roundOf G bound (rowAt G rows r)))) rows
-  pub answer-is : answer ≡ when (kept G k bound (rowAt G rows r) (roundOf G bound (rowAt G rows r)))
-      (clusters (nextRow (rowAt G rows r) (roundOf G bound (rowAt G rows r))))
+  pub rows-are : rows′ ≡ pick (kept G k bound (rowsIn rows (vertices G) r) (roundOf G bound (rowsIn rows (vertices G) r)))
+      (put rows (r * vertices G + vertices G) (nextRow (rowsIn rows (vertices G) r) (roundOf G bound (rowsIn rows (vertices G) r)))) rows
+  pub answer-is : answer ≡ when (kept G k bound (rowsIn rows (vertices G) r) (roundOf G bound (rowsIn rows (vertices G) r)))
+      (clusters (nextRow (rowsIn rows (vertices G) r) (roundOf G bound (rowsIn rows (vertices G) r))))
 
 -- where the round was kept, map has the new number of each cluster
 pub record JoinsRow (G : Graph) (k bound r : ℕ) (rows rows′ map : List ℕ) (answer : ℕ) : Type 0 where
   pub joined : JoinedRow G k bound r rows rows′ answer
-  pub renamed : (answer ≡ 0 → ⊥) → Renamed (rowAt G rows r) (nextRow (rowAt G rows r) (roundOf G bound (rowAt G rows r))) map
+  pub renamed : (answer ≡ 0 → ⊥) → Renamed (rowsIn rows (vertices G) r) (nextRow (rowsIn rows (vertices G) r) (roundOf G bound (rowsIn rows (vertices G) r))) map
 
 -- the lists and the topological orders of rows 0 to top, each end to end
 pub record Carried (G : Graph) (rows : ℕ → List ℕ) (top : ℕ) (froms tos widths sizes orders : List ℕ) : Type 0 where
@@ -50,9 +46,9 @@ pub record Carried (G : Graph) (rows : ℕ → List ℕ) (top : ℕ) (froms tos 
 
 -- what is carried up to row r, which has g clusters: lists, orders, and the clusters' costs
 pub record Carrying (G : Graph) (rows : List ℕ) (r g : ℕ) (froms tos widths sizes orders weights : List ℕ) : Type 0 where
-  pub carried : Carried G (rowAt G rows) r froms tos widths sizes orders
+  pub carried : Carried G (rowsIn rows (vertices G)) r froms tos widths sizes orders
   pub weighed : ClusterCosts g weights
-  pub costs : (c : ℕ) → getD weights c 0 ≡ partCost (G .costs) (rowAt G rows r) c
+  pub costs : (c : ℕ) → getD weights c 0 ≡ partCost (G .costs) (rowsIn rows (vertices G) r) c
 
 -- the levels of row r's g clusters, by its stored lists
 pub record LevelsAt (m r g : ℕ) (froms tos sizes levels : List ℕ) : Type 0 where
@@ -71,7 +67,7 @@ pub record RowsRoom (G : Graph) (rows froms tos widths sizes orders : List ℕ) 
 -- round was kept
 pub record Steps (G : Graph) (k bound r : ℕ) (rows rows′ froms tos widths sizes orders weights head next levels : List ℕ) (answer : ℕ) : Type 0 where
   pub joined : JoinedRow G k bound r rows rows′ answer
-  pub none : answer ≡ 0 → Carried G (rowAt G rows′) r froms tos widths sizes orders
+  pub none : answer ≡ 0 → Carried G (rowsIn rows′ (vertices G)) r froms tos widths sizes orders
   pub some : (answer ≡ 0 → ⊥) → Carrying G rows′ (r + 1) answer froms tos widths sizes orders weights
   pub links-stay : answer ≡ 0 → LinkedAt (edges G) r froms tos sizes head next
   pub links-next : (answer ≡ 0 → ⊥) → LinkedAt (edges G) (r + 1) froms tos sizes head next

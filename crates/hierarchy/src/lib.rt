@@ -2,7 +2,7 @@
 ghost use mathlib.Core.Path.{_≡_};
 ghost use Prim.Native.Nat.{_+_, _*_, _<_, _≤_};
 ghost use lib.ListN.{length, take};
-ghost use Rattle.contraction.proofs.Rounds.{Sound};
+ghost use Rattle.graph.specs.Rows.{Layer, rowsIn};
 ghost use Rattle.folds.specs.Fold.{over, zeros};
 ghost use Rattle.graph.specs.Graph.{graphOf, identity, arcs, joining};
 ghost use Rattle.graph.specs.Links.{Linked, leave};
@@ -11,7 +11,7 @@ ghost use Rattle.topology.specs.Order.{orderOf};
 ghost use Rattle.topology.specs.Level.{levelsOf};
 ghost use Rattle.matching.specs.Contracts.{RoundReady};
 ghost use Rattle.row_lists.specs.Carry.{Maps};
-ghost use Rattle.hierarchy.specs.Contracts.{Carries, rowAt, JoinsRow, Carried, Carrying, LevelsAt, RowsRoom, Steps, HandsOn, HandedOn, Buildable, Built};
+ghost use Rattle.hierarchy.specs.Contracts.{Carries, JoinsRow, Carried, Carrying, LevelsAt, RowsRoom, Steps, HandsOn, HandedOn, Buildable, Built};
 
 // The front of an array into a row.
 fn copy_row(src: &[u16; 512], row: &mut [u16])
@@ -58,8 +58,8 @@ fn join_row(
     r: usize,
     g: usize,
 ) -> usize
-    requires { ⌜ RoundReady (graphOf (now costs) (now starts) (now ends) (now widths)) (rowAt (graphOf (now costs) (now starts) (now ends) (now widths)) (now rows) r) g ⌝ }
-    requires { ⌜ Carries (graphOf (now costs) (now starts) (now ends) (now widths)) (rowAt (graphOf (now costs) (now starts) (now ends) (now widths)) (now rows) r) g (now weights) (now from) (now to) (now width) (now order) ⌝ }
+    requires { ⌜ RoundReady (graphOf (now costs) (now starts) (now ends) (now widths)) (rowsIn (now rows) (length (now costs)) r) g ⌝ }
+    requires { ⌜ Carries (graphOf (now costs) (now starts) (now ends) (now widths)) (rowsIn (now rows) (length (now costs)) r) g (now weights) (now from) (now to) (now width) (now order) ⌝ }
     requires { ⌜ (r < 8) × (k ≤ 16) × Linked (leave (joining (now from) (now to))) (length (now from)) (now head) (now next) × (now levels ≡ over (levelsOf (joining (now from) (now to)) g) (zeros 512)) ⌝ }
     requires { ⌜ 9 * length (now costs) ≤ length (now rows) ⌝ }
     ensures { λ x. ⌜ JoinsRow (graphOf (now (costs .entry)) (now (starts .entry)) (now (ends .entry)) (now (widths .entry))) k bound r (now (rows .entry)) (now (rows .exit)) (now (map .exit)) x ⌝ }
@@ -153,7 +153,7 @@ fn join_at(
     r: usize,
     g: usize,
 ) -> usize
-    requires { ⌜ RoundReady (graphOf (now costs) (now starts) (now ends) (now widths)) (rowAt (graphOf (now costs) (now starts) (now ends) (now widths)) (now rows) r) g × Sound (graphOf (now costs) (now starts) (now ends) (now widths)) (rowAt (graphOf (now costs) (now starts) (now ends) (now widths)) (now rows) r) ⌝ }
+    requires { ⌜ RoundReady (graphOf (now costs) (now starts) (now ends) (now widths)) (rowsIn (now rows) (length (now costs)) r) g × Layer (graphOf (now costs) (now starts) (now ends) (now widths)) (rowsIn (now rows) (length (now costs)) r) ⌝ }
     requires { ⌜ Carrying (graphOf (now costs) (now starts) (now ends) (now widths)) (now rows) r g (now froms) (now tos) (now wides) (now sizes) (now orders) (now weights) ⌝ }
     requires { ⌜ RowsRoom (graphOf (now costs) (now starts) (now ends) (now widths)) (now rows) (now froms) (now tos) (now wides) (now sizes) (now orders) ⌝ }
     requires { ⌜ (r < 8) × (k ≤ 16) × (g ≤ length (now costs)) × LinkedAt (length (now starts)) r (now froms) (now tos) (now sizes) (now head) (now next) × LevelsAt (length (now starts)) r g (now froms) (now tos) (now sizes) (now levels) ⌝ }
@@ -209,7 +209,7 @@ fn step(
     r: usize,
     g: usize,
 ) -> usize
-    requires { ⌜ RoundReady (graphOf (now costs) (now starts) (now ends) (now widths)) (rowAt (graphOf (now costs) (now starts) (now ends) (now widths)) (now rows) r) g × Sound (graphOf (now costs) (now starts) (now ends) (now widths)) (rowAt (graphOf (now costs) (now starts) (now ends) (now widths)) (now rows) r) ⌝ }
+    requires { ⌜ RoundReady (graphOf (now costs) (now starts) (now ends) (now widths)) (rowsIn (now rows) (length (now costs)) r) g × Layer (graphOf (now costs) (now starts) (now ends) (now widths)) (rowsIn (now rows) (length (now costs)) r) ⌝ }
     requires { ⌜ Carrying (graphOf (now costs) (now starts) (now ends) (now widths)) (now rows) r g (now froms) (now tos) (now wides) (now sizes) (now orders) (now weights) ⌝ }
     requires { ⌜ RowsRoom (graphOf (now costs) (now starts) (now ends) (now widths)) (now rows) (now froms) (now tos) (now wides) (now sizes) (now orders) ⌝ }
     requires { ⌜ (r < 8) × (k ≤ 16) × (g ≤ length (now costs)) × LinkedAt (length (now starts)) r (now froms) (now tos) (now sizes) (now head) (now next) × LevelsAt (length (now starts)) r g (now froms) (now tos) (now sizes) (now levels) ⌝ }
@@ -281,11 +281,11 @@ fn join_rows(
 ) -> usize
     requires { ⌜ Buildable (graphOf (now costs) (now starts) (now ends) (now widths)) k ⌝ }
     requires { ⌜ RowsRoom (graphOf (now costs) (now starts) (now ends) (now widths)) (now rows) (now froms) (now tos) (now wides) (now sizes) (now orders) ⌝ }
-    requires { ⌜ rowAt (graphOf (now costs) (now starts) (now ends) (now widths)) (now rows) 0 ≡ identity (length (now costs)) ⌝ }
-    requires { ⌜ Carried (graphOf (now costs) (now starts) (now ends) (now widths)) (rowAt (graphOf (now costs) (now starts) (now ends) (now widths)) (now rows)) 0 (now froms) (now tos) (now wides) (now sizes) (now orders) ⌝ }
+    requires { ⌜ rowsIn (now rows) (length (now costs)) 0 ≡ identity (length (now costs)) ⌝ }
+    requires { ⌜ Carried (graphOf (now costs) (now starts) (now ends) (now widths)) (rowsIn (now rows) (length (now costs))) 0 (now froms) (now tos) (now wides) (now sizes) (now orders) ⌝ }
     requires { ⌜ LinkedAt (length (now starts)) 0 (now froms) (now tos) (now sizes) (now head) (now next) × LevelsAt (length (now starts)) 0 (length (now costs)) (now froms) (now tos) (now sizes) (now levels) ⌝ }
     ensures { λ x. ⌜ Built (graphOf (now (costs .entry)) (now (starts .entry)) (now (ends .entry)) (now (widths .entry))) k bound (now (rows .entry)) (now (rows .exit)) x ⌝ }
-    ensures { λ x. ⌜ Carried (graphOf (now (costs .entry)) (now (starts .entry)) (now (ends .entry)) (now (widths .entry))) (rowAt (graphOf (now (costs .entry)) (now (starts .entry)) (now (ends .entry)) (now (widths .entry))) (now (rows .exit))) x (now (froms .exit)) (now (tos .exit)) (now (wides .exit)) (now (sizes .exit)) (now (orders .exit)) ⌝ }
+    ensures { λ x. ⌜ Carried (graphOf (now (costs .entry)) (now (starts .entry)) (now (ends .entry)) (now (widths .entry))) (rowsIn (now (rows .exit)) (length (now (costs .entry)))) x (now (froms .exit)) (now (tos .exit)) (now (wides .exit)) (now (sizes .exit)) (now (orders .exit)) ⌝ }
     ensures { λ x. ⌜ LinkedAt (length (now (starts .entry))) x (now (froms .exit)) (now (tos .exit)) (now (sizes .exit)) (now (head .exit)) (now (next .exit)) ⌝ }
 {
     let mut weights = [0; 512];
@@ -348,7 +348,7 @@ pub fn build(
     requires { ⌜ (length (now order) ≡ 512) × Linked (leave (joining (now starts) (now ends))) (length (now starts)) (now head) (now next) ⌝ }
     requires { ⌜ now levels ≡ over (levelsOf (arcs (identity (length (now costs))) (now starts) (now ends)) (length (now costs))) (zeros 512) ⌝ }
     ensures { λ x. ⌜ Built (graphOf (now (costs .entry)) (now (starts .entry)) (now (ends .entry)) (now (widths .entry))) k bound (now (rows .entry)) (now (rows .exit)) x ⌝ }
-    ensures { λ x. ⌜ Carried (graphOf (now (costs .entry)) (now (starts .entry)) (now (ends .entry)) (now (widths .entry))) (rowAt (graphOf (now (costs .entry)) (now (starts .entry)) (now (ends .entry)) (now (widths .entry))) (now (rows .exit))) x (now (froms .exit)) (now (tos .exit)) (now (wides .exit)) (now (sizes .exit)) (now (orders .exit)) ⌝ }
+    ensures { λ x. ⌜ Carried (graphOf (now (costs .entry)) (now (starts .entry)) (now (ends .entry)) (now (widths .entry))) (rowsIn (now (rows .exit)) (length (now (costs .entry)))) x (now (froms .exit)) (now (tos .exit)) (now (wides .exit)) (now (sizes .exit)) (now (orders .exit)) ⌝ }
     ensures { λ x. ⌜ LinkedAt (length (now (starts .entry))) x (now (froms .exit)) (now (tos .exit)) (now (sizes .exit)) (now (head .exit)) (now (next .exit)) ⌝ }
 {
     let n = costs.len();

@@ -9,7 +9,6 @@ use Rattle.folds.proofs.Cases.{either}
 use Rattle.graph.specs.Graph.{Graph, cutOf, Formed, Proper}
 use Rattle.graph.specs.Rows.{clusters, Hierarchy}
 use Rattle.graph.specs.Table.{Good}
-use Rattle.graph.proofs.Rows.{hierarchy-layer}
 use Rattle.division_table.specs.Division.{fits, divisions, Pick, none, some, least}
 use Rattle.division_table.proofs.Picks.{some-none}
 use Rattle.division_table.proofs.Wins.{Beats, least-holds, least-beats}
@@ -52,7 +51,7 @@ module _ (G : Graph) (F : Formed G) (k bound : ℕ) (row : List ℕ) (P : Positi
 module _ (G : Graph) (proper : Proper G) (k bound : ℕ) (rows : ℕ → List ℕ) (kept : ℕ) (H : Hierarchy G rows kept) where
   -- the positions of a kept row
   row-placed : (r : ℕ) → r ≤ kept → PositionsOf G (clusters (rows r)) (placesOf G (rows r))
-  row-placed r l = layer-placed proper (hierarchy-layer H r l)
+  row-placed r l = layer-placed proper (H .layer r l)
 
   -- here and below, or only below
   choose : (r : ℕ) (p : Pick (List ℕ)) (lower : Chosen) (q : ℕ) (t : List ℕ) (c : ℕ) → orLower r p lower ≡ found q t c → ((p ≡ some c t) × (q ≡ r)) ⊎ ((p ≡ none) × (lower ≡ found q t c))
@@ -139,5 +138,5 @@ module _ {G : Graph} {rows : ℕ → List ℕ} {top : ℕ} (proper : Proper G) (
   initial-good {r} e =
       let L = initial-least e in
       rw (L .gives)
-      (parts-good G (proper .formed) (clusters (rows r)) (placesOf G (rows r)) (layer-placed proper (hierarchy-layer H r (L .kept))) k bound (rows r) (L .starts)
-      (place-shared G (rows r) (proper .formed) (H .row r (L .kept)) (layer-few proper (hierarchy-layer H r (L .kept))) (H .acyclic r (L .kept))) (L .divides))
+      (parts-good G (proper .formed) (clusters (rows r)) (placesOf G (rows r)) (layer-placed proper (H .layer r (L .kept))) k bound (rows r) (L .starts)
+      (place-shared G (rows r) (proper .formed) (H .layer r (L .kept) .row-of) (layer-few proper (H .layer r (L .kept))) (H .layer r (L .kept) .acyclic)) (L .divides))

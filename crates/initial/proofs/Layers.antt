@@ -32,19 +32,19 @@ use Rattle.initial.proofs.Arranges.{order-is-once, at-order, through-pl
 use Rattle.initial.proofs.Listed.{listed-edges, listed-leaving}
 
 pub layer-few : {G : Graph} {row : List ℕ} → Proper G → Layer G row → clusters row ≤ 512
-layer-few {G} {row} P L = omega (arith, P .few, onto-few (vertices G) (clusters row) (λ v. getD row v 0) (L .is-row .below) (L .onto))
+layer-few {G} {row} P L = omega (arith, P .few, onto-few (vertices G) (clusters row) (λ v. getD row v 0) (L .row-of .below) (L .onto))
 
 pub layer-some : {G : Graph} {row : List ℕ} → Proper G → Layer G row → 0 < clusters row
-layer-some P L = omega (arith, L .is-row .below 0 (P .some))
+layer-some P L = omega (arith, L .row-of .below 0 (P .some))
 
 pub layer-placed : {G : Graph} {row : List ℕ} → Proper G → Layer G row → PositionsOf G (clusters row) (placesOf G row)
-layer-placed {G} {row} P L = placed G row (P .formed) (L .is-row) (layer-few P L) (L .acyclic) (L .onto)
+layer-placed {G} {row} P L = placed G row (P .formed) (L .row-of) (layer-few P L) (L .acyclic) (L .onto)
 
 pub layer-below : {G : Graph} {row : List ℕ} → Proper G → Layer G row → (length row ≤ 512) × ((v : ℕ) → v < length row → getD row v 0 < 512)
-layer-below P L = (omega (arith, L .is-row .whole, P .few), λ v h. omega (arith, layer-few P L, L .is-row .below v (omega (arith, L .is-row .whole))))
+layer-below P L = (omega (arith, L .row-of .whole, P .few), λ v h. omega (arith, layer-few P L, L .row-of .below v (omega (arith, L .row-of .whole))))
 
 pub layer-low : {G : Graph} {row : List ℕ} {g : ℕ} → Layer G row → g ≡ clusters row → (v : ℕ) → v < length row → getD row v 0 < g
-layer-low L e v h = omega (arith, L .is-row .below v (omega (arith, L .is-row .whole)))
+layer-low L e v h = omega (arith, L .row-of .below v (omega (arith, L .row-of .whole)))
 
 -- its divisions, worked by their starts
 pub layer-best : {G : Graph} {row : List ℕ} → Proper G → Layer G row → (bound n : ℕ)
@@ -64,7 +64,7 @@ layer-small {G} {row} {g} {k} bound P L e h =
 
 -- its order
 layer-inside : {G : Graph} {row : List ℕ} → Proper G → Layer G row → Inside (seen G row) (clusters row)
-layer-inside P L = row-inside (P .formed) (L .is-row)
+layer-inside P L = row-inside (P .formed) (L .row-of)
 
 pub layer-once : {G : Graph} {row : List ℕ} {g : ℕ} (order : List ℕ) → Proper G → Layer G row → OrderOf G row order → g ≡ clusters row → Once g order
 layer-once {G} {row} order P L O e = rw e (order-is-once (seen G row) (clusters row) order (layer-inside P L) (layer-few P L) (L .acyclic) O)
@@ -94,7 +94,7 @@ module _ {G : Graph} {row order at places from to width head next : List ℕ} {g
   is-places = through-places (seen G row) (clusters row) order (layer-inside P L) (layer-few P L) (L .acyclic) O row at (layer-low L (refl {a = clusters row})) (rw e at I)
 
   whole : length (through row at) ≡ vertices G
-  whole = length-through row at ∙ L .is-row .whole
+  whole = length-through row at ∙ L .row-of .whole
 
   front-is : take (vertices G) places ≡ through row at
   front-is = ap (take (vertices G)) q ∙ take-over (through row at) l (vertices G) whole
@@ -107,7 +107,7 @@ module _ {G : Graph} {row order at places from to width head next : List ℕ} {g
 
   place-is : (v : ℕ) → v < vertices G → getD (through row at) v 0 ≡ getD (take g at) (getD row v 0) 0
   place-is v h =
-      let i : v < length row = omega (arith, L .is-row .whole) in
+      let i : v < length row = omega (arith, L .row-of .whole) in
       through-at row at v i ∙ sym (getD-take g at (getD row v 0) 0 (layer-low L e v i))
 
   from-low : (j : ℕ) → getD from j 0 < g
@@ -134,7 +134,7 @@ module _ {G : Graph} {row order at places from to width head next : List ℕ} {g
 
   pub arranged : Arranged G row order at places from to width head next g
   arranged =
-      let R : RowOf G row g = rw e (L .is-row) in
+      let R : RowOf G row g = rw e (L .row-of) in
       let onto : (c : ℕ) → c < g → (v : ℕ) × (v < vertices G) × (getD row v 0 ≡ c) = λ c h. L .onto c (omega arith) in
       let D : Coarse G row g from to width = rw e C in
       record {

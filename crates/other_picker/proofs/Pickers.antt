@@ -7,7 +7,7 @@ use Rattle.folds.specs.Fold.{sumTo, maxTo, firstTo, anyTo, allTo, listTo, turns
 use Rattle.folds.proofs.Cases.{by, both}
 use Rattle.graph.specs.Walk.{Acyclic}
 use Rattle.graph.specs.Graph.{Graph, vertices, identity, seen, edge, Edge, widthOf, costIn, partCost, Formed, Inside}
-use Rattle.graph.specs.Rows.{clusters}
+use Rattle.graph.specs.Rows.{clusters, Layer}
 use Rattle.graph.proofs.Edges.{row-inside}
 use Rattle.topology.specs.Level.{rise, levelsAfter, levelsOf}
 use Rattle.topology.specs.Order.{waits, ready, orNone, orderFrom, orderOf}
@@ -17,7 +17,7 @@ use Rattle.contraction.specs.Next.{nextRow}
 use Rattle.contraction.proofs.Crossed.{case3}
 use Rattle.contraction.specs.Rounds.{rowAfter, AllKeep}
 use Rattle.contraction.proofs.Tests.{keeps-none, keeps-more}
-use Rattle.contraction.proofs.Rounds.{Sound, bottom-sound, next-sound, rounds-acyclic}
+use Rattle.contraction.proofs.Rounds.{bottom-layer, next-layer, rounds-acyclic}
 use Rattle.matching.specs.Choice.{mayTake, offer, widest, taken, visit, visits, roundOf}
 use Rattle.other_picker.specs.Picker.{highest, visitHigh, visitsHigh, roundHigh, roundsHigh}
 
@@ -38,22 +38,22 @@ module _ (G : Graph) (bound : ℕ) (row : List ℕ) (g : ℕ) (inside : Inside (
   visits-keep ps [] K = K
   visits-keep ps (u ∷ us) K = visits-keep (visitHigh G bound row L g ps u) us (visit-keeps ps u K)
 
-round-keeps : (G : Graph) (bound : ℕ) (row : List ℕ) → Formed G → Sound G row → Keeps (seen G row) (clusters row) (roundHigh G bound row)
+round-keeps : (G : Graph) (bound : ℕ) (row : List ℕ) → Formed G → Layer G row → Keeps (seen G row) (clusters row) (roundHigh G bound row)
 unfolding roundHigh
 round-keeps G bound row F S =
     let inside = row-inside F (S .row-of) in visits-keep G bound row (clusters row) inside [] (orderOf (seen G row) (clusters row)) (keeps-none (seen G row) (clusters row) inside)
 
-rounds-keep : (G : Graph) (bound f : ℕ) (row : List ℕ) → Formed G → Sound G row → AllKeep G row (roundsHigh G bound f row)
+rounds-keep : (G : Graph) (bound f : ℕ) (row : List ℕ) → Formed G → Layer G row → AllKeep G row (roundsHigh G bound f row)
 unfolding roundsHigh
 rounds-keep G bound zero row F S = tt
 rounds-keep G bound (suc f) row F S =
-    let K = round-keeps G bound row F S in (K, rounds-keep G bound f (nextRow row (roundHigh G bound row)) F (next-sound G row (roundHigh G bound row) F S K))
+    let K = round-keeps G bound row F S in (K, rounds-keep G bound f (nextRow row (roundHigh G bound row)) F (next-layer G row (roundHigh G bound row) F S K))
 
 -- WHOEVER PICKED: the claim of contraction, cited for the other picker's list
 pub other-acyclic : (G : Graph) → Formed G → Acyclic (Edge (seen G (identity (vertices G)))) → (bound f i : ℕ)
     → Acyclic (Edge (seen G (rowAfter (identity (vertices G)) (take i (roundsHigh G bound f (identity (vertices G)))))))
 other-acyclic G F ac bound f i =
-    rounds-acyclic G F ac (roundsHigh G bound f (identity (vertices G))) (rounds-keep G bound f (identity (vertices G)) F (bottom-sound G ac)) i
+    rounds-acyclic G F ac (roundsHigh G bound f (identity (vertices G))) (rounds-keep G bound f (identity (vertices G)) F (bottom-layer G ac)) i
 
 -- on case 3 of document 01 the two pick different pairs
 pub picks-low : roundOf case3 4 (identity 4) ≡ pair 0 2 ∷ []

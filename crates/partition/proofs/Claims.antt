@@ -147,9 +147,9 @@ module _ (G : Graph) (k bound : ℕ) (valid : Valid G k bound) where
   split-order r l =
       let A = seen G (rowOf G k bound r) in
       let g = clusters (rowOf G k bound r) in
-      let inside = row-inside (sound .proper .formed) (kept .row r l) in
+      let inside = row-inside (sound .proper .formed) (kept .layer r l .row-of) in
       let small : g ≤ 512 = omega (arith, few-clusters kept r l, sound .proper .few) in
-      let all = order-all A g inside (kept .acyclic r l) in
+      let all = order-all A g inside (kept .layer r l .acyclic) in
       record { all = all; each = λ c lc. place-at A g inside all c lc .1; rises = order-rises A g inside all }
 
   -- FROM THE ANSWER TO THE CLAIMS: with room for its tables, the split answers what the phases gave, or 9

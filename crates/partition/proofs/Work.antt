@@ -29,9 +29,9 @@ use Rattle.validity.specs.declared.Verdict.{Verdict}
 use Rattle.validity.specs.declared.Verdict.the-variants.{Passed, Refused}
 use Rattle.validity.proofs.Passed.{passed-valid, valid-sound}
 use Rattle.hierarchy.specs.Rounds.{rowsOf, keptOf, rowOf, flat, rowsAfter}
-use Rattle.hierarchy.specs.Contracts.{rowAt, Carried, Built, Buildable}
+use Rattle.hierarchy.specs.Contracts.{Carried, Built, Buildable}
 use Rattle.hierarchy.proofs.Flat.{length-flat}
-use Rattle.hierarchy.proofs.Own.{rows-hierarchy, hierarchy-ext, row-sound, stored-row, kept-few}
+use Rattle.hierarchy.proofs.Own.{rows-hierarchy, hierarchy-ext, row-layer, stored-row, kept-few}
 use Rattle.initial.specs.Initial.{found, uncut, chosenOf}
 use Rattle.initial.specs.Contracts.{Chooses, Borrowed, OrdersStored}
 use Rattle.graph.specs.Rows.{rowsIn}
@@ -84,7 +84,7 @@ module _ (G : Graph) (k bound : ℕ) (S : Sound G k bound) where
 
   rows-length : length (flat (rowsOf G k bound)) ≡ suc (keptOf G k bound) * vertices G
   unfolding rowsOf keptOf rowOf
-  rows-length = length-flat (vertices G) (rowsOf G k bound) (λ r l. row-sound G k bound (S .proper .formed) (S .acyclic) r (omega arith) .row-of .whole)
+  rows-length = length-flat (vertices G) (rowsOf G k bound) (λ r l. row-layer G k bound (S .proper .formed) (S .acyclic) r (omega arith) .row-of .whole)
 
   -- after the first phase
   module _ (table rows rows′ : List ℕ) (rounds : ℕ) (B : Built G k bound rows rows′ rounds) (lt : vertices G ≤ length table) (ll : 9 * vertices G ≤ length rows) where
@@ -106,9 +106,7 @@ module _ (G : Graph) (k bound : ℕ) (S : Sound G k bound) where
         hierarchy-ext G k bound (S .proper .formed) (S .acyclic) (λ r h. same-rows r (omega arith))
         record {
           bottom = kept .bottom;
-          row = λ r h. kept .row r (omega (arith, B .kept-is));
-          onto = λ r h. kept .onto r (omega (arith, B .kept-is));
-          acyclic = λ r h. kept .acyclic r (omega (arith, B .kept-is));
+          layer = λ r h. kept .layer r (omega (arith, B .kept-is));
           refines = λ r h. kept .refines r (omega (arith, B .kept-is));
         }
 
@@ -116,10 +114,10 @@ module _ (G : Graph) (k bound : ℕ) (S : Sound G k bound) where
     choose-hierarchy = part-hierarchy rounds (omega arith)
 
     -- what was carried, as the second phase asks for it
-    pub choose-lent : {froms tos widths sizes orders : List ℕ} → Carried G (rowAt G rows′) rounds froms tos widths sizes orders → Borrowed (vertices G) k rounds rows′ sizes table
+    pub choose-lent : {froms tos widths sizes orders : List ℕ} → Carried G (rowsIn rows′ (vertices G)) rounds froms tos widths sizes orders → Borrowed (vertices G) k rounds rows′ sizes table
     choose-lent D = record { parts = (S .some, S .few); few = omega (arith, few, B .kept-is); nine = D .nine; long = held rounds (omega arith); room = lt }
 
-    pub choose-orders : {froms tos widths sizes orders : List ℕ} → Carried G (rowAt G rows′) rounds froms tos widths sizes orders → OrdersStored G (rowsIn rows′ (vertices G)) rounds orders
+    pub choose-orders : {froms tos widths sizes orders : List ℕ} → Carried G (rowsIn rows′ (vertices G)) rounds froms tos widths sizes orders → OrdersStored G (rowsIn rows′ (vertices G)) rounds orders
     choose-orders D = record { long = D .long; is = D .order }
 
     -- after the second
@@ -155,7 +153,7 @@ module _ (G : Graph) (k bound : ℕ) (S : Sound G k bound) where
         refine-descends =
             record { proper = S .proper; hierarchy = part-hierarchy rung below; good = rw front (start .table); few = S .few; held = held rung below }
 
-        pub refine-stored : {froms tos widths sizes orders : List ℕ} → Carried G (rowAt G rows′) rounds froms tos widths sizes orders → Stored G (rowsIn rows′ (vertices G)) rung (edges G) froms tos widths sizes
+        pub refine-stored : {froms tos widths sizes orders : List ℕ} → Carried G (rowsIn rows′ (vertices G)) rounds froms tos widths sizes orders → Stored G (rowsIn rows′ (vertices G)) rung (edges G) froms tos widths sizes
         refine-stored D = lower-stored rung below (D .lists)
 
         pub refine-cut : c ≡ cutOf G (take (vertices G) table′)

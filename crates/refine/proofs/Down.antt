@@ -61,7 +61,7 @@ module _ (G : Graph) (P : Proper G) (k bound : ℕ) (few : k ≤ 16) (rows : ℕ
     descent-ready : 0 < r → RowReady G k bound (rows (r - 1)) parts moves
     descent-ready l =
         let q : r - 1 ≤ top = omega (arith, x .within) in
-        record { proper = P; row-of = H .row (r - 1) q; onto = H .onto (r - 1) q; good = x .good; few = few; room = x .room }
+        record { proper = P; row-of = H .layer (r - 1) q .row-of; onto = H .layer (r - 1) q .onto; good = x .good; few = few; room = x .room }
 
     descent-turn : (parts′ : List ℕ) (moves′ : ℕ) → 0 < r → tallyOf parts′ moves′ ≡ refinedOn G k bound (rows (r - 1)) (tallyOf parts moves) → Descent G k bound rows top R (r - 1) parts′ moves′
     unfolding refinedBelow

@@ -28,7 +28,7 @@ pub record Nested (G : Graph) (rows : ℕ → List ℕ) (top : ℕ) : Type 0 whe
   pub refines : (r : ℕ) → r < top → (a b : ℕ) → a < vertices G → b < vertices G → getD (rows r) a 0 ≡ getD (rows r) b 0 → getD (rows (suc r)) a 0 ≡ getD (rows (suc r)) b 0
 
 pub nested : {G : Graph} {rows : ℕ → List ℕ} {top : ℕ} → Hierarchy G rows top → Nested G rows top
-nested H = record { whole = λ r l. H .row r l .whole; refines = H .refines }
+nested H = record { whole = λ r l. H .layer r l .row-of .whole; refines = H .refines }
 
 -- one row by itself
 pub alone : {G : Graph} (row : List ℕ) → length row ≡ vertices G → Nested G (λ r. row) 0

@@ -6,7 +6,6 @@ use lib.ListN.{length}
 use Rattle.graph.specs.Graph.{graphOf}
 use Rattle.graph.specs.Rows.{rowsIn}
 use Rattle.graph.proofs.Coarse.{lower-stored}
-use Rattle.graph.proofs.Rows.{hierarchy-layer}
 use Rattle.initial.specs.Initial.{initialOf, highest, chosenOf}
 use Rattle.initial.specs.Contracts.{LinkedBelow}
 use Rattle.initial.proofs.Chooses.{row-hit, row-miss, rows-start, rows-end, lower-lent, lower-ordered, stored-linkable, linked-top, linked-at, linked-uncut}
@@ -28,7 +27,7 @@ choose-spec =
     (λ c. (omega arith, refl, rows-start _ _ _ _ _, linked-top (c .before .before .before .before .before .before .before .before .before .before .pre .1 .1 .1 .1 .0)))
     (λ c. search needs)
     (λ c κs. let p = c .before .before .before .before .before .before .before .before .before .before .before .before .before .before .before .pre in let l = c .before .before .before .before .loop in let q : l .r - 1 ≤ c .before .before .before .before .before .before .before .before .before .before .before .before .before .before .before .args .top = omega arith in let e = l .inv .1 in
-    (p .0, (hierarchy-layer (p .1 .0) _ q, (lower-ordered _ q (p .1 .1 .0), (lower-stored _ q (p .1 .1 .1 .0), (l .inv .3 .below (omega arith), lower-lent _ q (rw e (p .1 .1 .1 .1 .1))))))))
+    (p .0, (p .1 .0 .layer _ q, (lower-ordered _ q (p .1 .1 .0), (lower-stored _ q (p .1 .1 .1 .0), (l .inv .3 .below (omega arith), lower-lent _ q (rw e (p .1 .1 .1 .1 .1))))))))
     (λ c. search needs)
     (λ c. omega (arith, ap length (c .before .before .before .before .before .before .before .before .before .before .loop .inv .1), c .before .before .before .before .before .divide-at .kept))
     (λ c. let l = c .before .before .before .before .before .before .before .before .before .before .loop in let v = l .inv in let t : 0 < l .r = omega arith in
