@@ -1,15 +1,16 @@
 -- The checks, from what the code's branches say, and what passed checks say of the lists.
-use Prim.Native.Nat.{ℕ, _≤_, _<_}
+use Prim.Native.Nat.{ℕ, _+_, _≤_, _<_}
 use mathlib.Core.Path.{_≡_, refl, sym, ap, _∙_}
 use mathlib.Core.Bool.{Bool, true, false, not, _||_}
 use mathlib.Core.List.{List}
 use native.Mathlib.Omega.{arith}
 use lib.Dec.{eqb, ltb, leb}
 use lib.ListN.{length, getD}
-use borrow.Author.Tests.{eqb-true, ltb-false, leb-false, lt-ltb, le-ltb}
-use Rattle.folds.specs.Fold.{firstTo, over, zeros}
-use Rattle.folds.proofs.Cases.{no-bool, not-no}
-use Rattle.folds.proofs.Searches.{firstTo-le, firstTo-none}
+use borrow.Author.Tests.{eqb-true, eq-eqb, ltb-false, leb-false, lt-ltb, le-ltb}
+use Rattle.folds.specs.Fold.{when, countTo, firstTo, anyTo, over, zeros}
+use Rattle.folds.proofs.Cases.{no-bool, not-no, not-yes}
+use Rattle.folds.proofs.Sums.{sumTo-zero, sumTo-turn}
+use Rattle.folds.proofs.Searches.{firstTo-le, firstTo-none, count-none}
 use Rattle.graph.specs.Graph.{identity, Arcs, arcs, joining, Inside}
 use Rattle.graph.specs.Links.{Ended, Linked, leave}
 use Rattle.graph.proofs.Edges.{joining-is}
@@ -21,6 +22,26 @@ use Rattle.validity.specs.Check.{refuseAt, badVertices, badEdges, badEnd
 use Rattle.validity.specs.declared.Cause.{Cause}
 use Rattle.validity.specs.declared.Verdict.{Verdict}
 use Rattle.validity.specs.declared.Verdict.the-variants.{Passed, Refused}
+
+-- a loop that counts the edges that check 6 refuses
+module _ (n : ℕ) (starts ends widths : List ℕ) where
+  pub faults-none : 0 ≡ countTo 0 (badEnds n starts ends widths)
+  unfolding countTo
+  faults-none = sym (sumTo-zero _)
+
+  pub faults-turn : (j : ℕ) {s x : ℕ} → s ≡ countTo j (badEnds n starts ends widths)
+      → x ≡ when (leb n (getD starts j 0) || (leb n (getD ends j 0) || (eqb (getD starts j 0) (getD ends j 0) || eqb (getD widths j 0) 0))) 1
+      → s + x ≡ countTo (j + 1) (badEnds n starts ends widths)
+  unfolding countTo badEnds
+  faults-turn j e h = sumTo-turn (λ k. when (badEnds n starts ends widths k) 1) e h
+
+-- where none has p, the search goes to the end
+pub none-first : {n c : ℕ} (p : ℕ → Bool) → c ≡ countTo n p → c ≡ 0 → n ≡ firstTo n p
+unfolding anyTo
+none-first {n} {c} p e z =
+    let q : eqb (countTo n p) 0 ≡ true = eq-eqb _ _ (sym e ∙ z) in
+    let r : not (ltb (firstTo n p) n) ≡ true = sym (count-none n p) ∙ q in
+    omega (arith, ltb-false (firstTo n p) n (not-yes _ r), firstTo-le n p)
 
 -- a chain of checks, from what the branches say
 module _ (cause : Cause) (i j n : ℕ) (x : Verdict) where

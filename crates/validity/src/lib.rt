@@ -2,7 +2,9 @@
 ghost use mathlib.Core.Path.{_≡_};
 ghost use Prim.Native.Nat.{ℕ, _<_, _≤_};
 ghost use lib.ListN.{length, getD};
-ghost use Rattle.folds.specs.Fold.{firstTo};
+ghost use mathlib.Core.Bool.{_||_};
+ghost use lib.Dec.{eqb, leb};
+ghost use Rattle.folds.specs.Fold.{when, countTo, firstTo};
 ghost use Rattle.graph.specs.Graph.{graphOf};
 ghost use Rattle.validity.specs.Cause.{numberOf};
 ghost use Rattle.validity.specs.Repeat.{WordsRoom, tried};
@@ -141,8 +143,41 @@ fn is_bad_end(n: usize, starts: &[u16], ends: &[u16], widths: &[u16], j: usize) 
     folds::at16(widths, j) == 0
 }
 
-// The lowest edge that check 6 refuses, or how many there are.
-fn bad_end(n: usize, starts: &[u16], ends: &[u16], widths: &[u16]) -> usize
+// 1 where check 6 refuses an edge from a to b of width w, else 0. All three are read before: a loop can then take many edges at once.
+fn fault(n: u16, a: u16, b: u16, w: u16) -> u16
+    ensures { λ r. ⌜ (r ≡ when (leb n a || (leb n b || (eqb a b || eqb w 0))) 1) × (r ≤ 1) ⌝ }
+{
+    if n <= a {
+        return 1;
+    }
+    if n <= b {
+        return 1;
+    }
+    if a == b {
+        return 1;
+    }
+    if w == 0 {
+        return 1;
+    }
+    0
+}
+
+// How many edges check 6 refuses.
+fn faults(n: u16, starts: &[u16], ends: &[u16], widths: &[u16]) -> u16
+    requires { ⌜ (length (now ends) ≡ length (now starts)) × (length (now widths) ≡ length (now starts)) × (length (now starts) ≤ 1024) ⌝ }
+    ensures { λ r. ⌜ r ≡ countTo (length (now (starts .entry))) (badEnds n (now (starts .entry)) (now (ends .entry)) (now (widths .entry))) ⌝ }
+{
+    let mut sum: u16 = 0;
+    let mut j: usize = 0;
+    while j < starts.len() {
+        sum += fault(n, starts[j], ends[j], widths[j]);
+        j += 1;
+    }
+    sum
+}
+
+// The lowest edge that check 6 refuses, or how many there are, one after the other.
+fn first_fault(n: usize, starts: &[u16], ends: &[u16], widths: &[u16]) -> usize
     requires { ⌜ (length (now ends) ≡ length (now starts)) × (length (now widths) ≡ length (now starts)) ⌝ }
     ensures { λ r. ⌜ r ≡ firstTo (length (now (starts .entry))) (badEnds n (now (starts .entry)) (now (ends .entry)) (now (widths .entry))) ⌝ }
 {
@@ -154,6 +189,17 @@ fn bad_end(n: usize, starts: &[u16], ends: &[u16], widths: &[u16]) -> usize
         j += 1;
     }
     j
+}
+
+// The lowest edge that check 6 refuses, or how many there are: looked for only where there is one.
+fn bad_end(n: usize, starts: &[u16], ends: &[u16], widths: &[u16]) -> usize
+    requires { ⌜ (length (now ends) ≡ length (now starts)) × (length (now widths) ≡ length (now starts)) × (length (now starts) ≤ 1024) × (n ≤ 512) ⌝ }
+    ensures { λ r. ⌜ r ≡ firstTo (length (now (starts .entry))) (badEnds n (now (starts .entry)) (now (ends .entry)) (now (widths .entry))) ⌝ }
+{
+    if faults(n as u16, starts, ends, widths) == 0 {
+        return starts.len();
+    }
+    first_fault(n, starts, ends, widths)
 }
 
 // Tries the edges from the lowest up, to the first whose bit is set already: edge j has bit ends[j] % 64 of word
