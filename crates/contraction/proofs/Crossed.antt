@@ -6,9 +6,9 @@ use mathlib.Core.List.{List, [], _∷_}
 use Rattle.folds.specs.Fold.{sumTo, countTo, maxTo, firstTo, anyTo, allTo, listTo, zeros}
 use Rattle.graph.specs.Walk.{one, more, Cycle}
 use Rattle.graph.specs.Graph.{Graph, graphOf, identity, Arcs, seen, edge, Edge}
-use Rattle.topology.specs.Level.{rise, levelsAfter, levelsOf}
+use Rattle.topology.specs.Level.{rise, levelsAfter, levelsOf, nextIn}
 use Rattle.contraction.specs.Rules.{Pair, pair}
-use Rattle.contraction.specs.Tests.{allOf, next, onlySuccessor, onlyPredecessor, ruleOne, ruleTwo, fits, keeps}
+use Rattle.contraction.specs.Tests.{allOf, onlySuccessor, onlyPredecessor, ruleOne, ruleTwo, fits, keeps}
 use Rattle.contraction.specs.Next.{mateOf, together, lowestOf, leads, numbered, joinedRow, nextRow}
 
 unfoldable pub case3 : Graph
@@ -29,21 +29,21 @@ q = pair 1 3
 
 -- the second condition of the paper's Theorem 2 as printed: no edge from u of one pair to v of the other, or level(u) is not level(v) + 1
 unfoldable pub printedTwo : Pair → Pair → Bool
-printedTwo a b = not (edge blocks (a .from) (b .to) && next blocks levels 4 (b .to) (a .from))
+printedTwo a b = not (edge blocks (a .from) (b .to) && nextIn levels (b .to) (a .from))
 
 -- each of the two keeps rule 1
 pub each-keeps : (ruleOne blocks levels 4 p ≡ true) × (ruleOne blocks levels 4 q ≡ true)
-unfolding case3 identity listTo zeros maxTo rise levelsAfter levelsOf edge anyTo firstTo allTo next onlySuccessor onlyPredecessor ruleOne
+unfolding case3 identity listTo zeros maxTo rise levelsAfter levelsOf edge anyTo firstTo allTo nextIn onlySuccessor onlyPredecessor ruleOne
 each-keeps = (refl, refl)
 
 -- and both keep rule 2 as printed
 pub printed-keeps : (printedTwo p q ≡ true) × (printedTwo q p ≡ true)
-unfolding case3 identity listTo zeros maxTo rise levelsAfter levelsOf edge anyTo firstTo next printedTwo
+unfolding case3 identity listTo zeros maxTo rise levelsAfter levelsOf edge anyTo firstTo nextIn printedTwo
 printed-keeps = (refl, refl)
 
 -- document 01's rule 2 refuses them
 pub both-refused : keeps blocks levels 4 (p ∷ q ∷ []) ≡ false
-unfolding case3 identity listTo zeros maxTo rise levelsAfter levelsOf edge anyTo firstTo allTo allOf next onlySuccessor onlyPredecessor ruleOne ruleTwo fits keeps
+unfolding case3 identity listTo zeros maxTo rise levelsAfter levelsOf edge anyTo firstTo allTo allOf nextIn onlySuccessor onlyPredecessor ruleOne ruleTwo fits keeps
 both-refused = refl
 
 -- joined all the same, the two groups have edges both ways

@@ -12,9 +12,9 @@ use Rattle.folds.proofs.Cases.{no-bool, either, both, both-i, one-of, or-l, or-
 use Rattle.folds.proofs.Searches.{all-i, all-e}
 use Rattle.graph.specs.Graph.{Arcs, edge, Inside}
 use Rattle.graph.proofs.Edges.{edge-inside}
-use Rattle.topology.specs.Level.{levelsOf, level}
+use Rattle.topology.specs.Level.{levelsOf, level, nextIn}
 use Rattle.contraction.specs.Rules.{Pair, Round, pairAt, Next, OnlySuccessor, OnlyPredecessor, RuleOne, RuleTwo, Keeps}
-use Rattle.contraction.specs.Tests.{allOf, next, onlySuccessor, onlyPredecessor, ruleOne, ruleTwo, fits, keeps}
+use Rattle.contraction.specs.Tests.{allOf, onlySuccessor, onlyPredecessor, ruleOne, ruleTwo, fits, keeps}
 
 -- a test of every pair, read at an index, and back
 pub all-of-e : (t : Pair → Bool) (ps : Round) → allOf t ps ≡ true → (i : ℕ) → i < length ps → t (pairAt ps i) ≡ true
@@ -55,12 +55,12 @@ module _ (A : Arcs) (g : ℕ) (inside : Inside A g) where
   abbrev L : List ℕ
   L = levelsOf A g
 
-  next-e : (u v : ℕ) → next A L g u v ≡ true → Next A g u v
-  unfolding next level
+  next-e : (u v : ℕ) → nextIn L u v ≡ true → Next A g u v
+  unfolding nextIn level
   next-e u v t = eqb-true _ _ t
 
-  next-i : (u v : ℕ) → Next A g u v → next A L g u v ≡ true
-  unfolding next level
+  next-i : (u v : ℕ) → Next A g u v → nextIn L u v ≡ true
+  unfolding nextIn level
   next-i u v e = eq-eqb _ _ e
 
   successor-e : (u v : ℕ) → onlySuccessor A L g u v ≡ true → OnlySuccessor A g u v
@@ -87,7 +87,7 @@ module _ (A : Arcs) (g : ℕ) (inside : Inside A g) where
       let (e, r) = both (edge A u v) _ t in
       record {
         joins = e;
-        near = either (one-of (next A L g u v) _ r) (λ s. inl (next-e u v s))
+        near = either (one-of (nextIn L u v) _ r) (λ s. inl (next-e u v s))
             (λ s. inr (either (one-of (onlySuccessor A L g u v) _ s) (λ q. inl (successor-e u v q)) (λ q. inr (predecessor-e u v q))));
       }
 
@@ -97,13 +97,13 @@ module _ (A : Arcs) (g : ℕ) (inside : Inside A g) where
       let u = p .from in
       let v = p .to in
       both-i (edge A u v) _ (r .joins)
-      (either (r .near) (λ s. or-l (next A L g u v) _ (next-i u v s))
-      (λ s. or-r (next A L g u v) _ (either s (λ q. or-l (onlySuccessor A L g u v) _ (successor-i u v q)) (λ q. or-r (onlySuccessor A L g u v) _ (predecessor-i u v q)))))
+      (either (r .near) (λ s. or-l (nextIn L u v) _ (next-i u v s))
+      (λ s. or-r (nextIn L u v) _ (either s (λ q. or-l (onlySuccessor A L g u v) _ (successor-i u v q)) (λ q. or-r (onlySuccessor A L g u v) _ (predecessor-i u v q)))))
 
   pub two-tested : (p q : Pair) → ruleTwo A L g p q ≡ true → RuleTwo A g p q
   unfolding ruleTwo
   two-tested p q t =
-      let (a, r) = both (not (edge A (p .from) (q .to) && next A L g (p .from) (q .to))) _ t in
+      let (a, r) = both (not (edge A (p .from) (q .to) && nextIn L (p .from) (q .to))) _ t in
       let (b, s) = both (not (eqb (p .from) (q .from))) _ r in
       let (c, d) = both (not (eqb (p .from) (q .to))) _ s in
       record {
@@ -116,7 +116,7 @@ module _ (A : Arcs) (g : ℕ) (inside : Inside A g) where
   pub tested-two : (p q : Pair) → RuleTwo A g p q → ruleTwo A L g p q ≡ true
   unfolding ruleTwo
   tested-two p q r =
-      both-i (not (edge A (p .from) (q .to) && next A L g (p .from) (q .to))) _
+      both-i (not (edge A (p .from) (q .to) && nextIn L (p .from) (q .to))) _
       (not-i _ (λ t. let (e, n) = both (edge A (p .from) (q .to)) _ t in r .clear e (next-e _ _ n)))
       (both-i (not (eqb (p .from) (q .from))) _ (not-eq _ _ (r .from-from))
       (both-i (not (eqb (p .from) (q .to))) _ (not-eq _ _ (r .from-to)) (not-eq _ _ (r .to-to))))

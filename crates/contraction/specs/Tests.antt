@@ -1,9 +1,9 @@
 -- The join rules as tests that compute (laws `keeps-tested` and `tested-keeps`).
-use Prim.Native.Nat.{ℕ, _+_}
+use Prim.Native.Nat.{ℕ}
 use mathlib.Core.Bool.{Bool, true, not, _&&_, _||_}
 use mathlib.Core.List.{List, [], _∷_}
 use lib.Dec.{eqb}
-use lib.ListN.{getD}
+use Rattle.topology.specs.Level.{nextIn}
 use Rattle.folds.specs.Fold.{allTo}
 use Rattle.graph.specs.Graph.{Arcs, edge}
 use Rattle.contraction.specs.Rules.{Pair, Round}
@@ -15,9 +15,6 @@ allOf t (p ∷ ps) = t p && allOf t ps
 
 -- over g clusters, with their levels as a list
 module _ (A : Arcs) (levels : List ℕ) (g : ℕ) where
-  unfoldable pub next : ℕ → ℕ → Bool
-  next u v = eqb (getD levels v 0) (getD levels u 0 + 1)
-
   unfoldable pub onlySuccessor : ℕ → ℕ → Bool
   onlySuccessor u v = allTo g (λ w. not (edge A u w) || eqb w v)
 
@@ -25,11 +22,11 @@ module _ (A : Arcs) (levels : List ℕ) (g : ℕ) where
   onlyPredecessor u v = allTo g (λ w. not (edge A w v) || eqb w u)
 
   unfoldable pub ruleOne : Pair → Bool
-  ruleOne p = edge A (p .from) (p .to) && (next (p .from) (p .to) || (onlySuccessor (p .from) (p .to) || onlyPredecessor (p .from) (p .to)))
+  ruleOne p = edge A (p .from) (p .to) && (nextIn levels (p .from) (p .to) || (onlySuccessor (p .from) (p .to) || onlyPredecessor (p .from) (p .to)))
 
   unfoldable pub ruleTwo : Pair → Pair → Bool
   ruleTwo p q =
-      not (edge A (p .from) (q .to) && next (p .from) (q .to))
+      not (edge A (p .from) (q .to) && nextIn levels (p .from) (q .to))
       && (not (eqb (p .from) (q .from)) && (not (eqb (p .from) (q .to)) && not (eqb (p .to) (q .to))))
 
   -- p keeps both rules with the pairs ps

@@ -9,7 +9,7 @@ use borrow.Author.Tests.{eq-eqb}
 use Rattle.folds.specs.Fold.{when, sumTo}
 use Rattle.folds.proofs.Sums.{sumTo-ext, sumTo-mono, sumTo-member, sumTo-only, sumTo-swap}
 use Rattle.graph.specs.Graph.{Graph, vertices, Formed, Proper}
-use Rattle.graph.specs.Rows.{clusters, Layer, Hierarchy}
+use Rattle.graph.specs.Rows.{clusters, Hierarchy}
 use Rattle.graph.specs.Links.{Joins}
 
 ones : (n : ℕ) → sumTo n (λ i. 1) ≡ n

@@ -8,6 +8,7 @@ use lib.Dec.{eqb}
 use lib.ListN.{length, getD, set, take, length-set}
 use lib.Seq.{getD-set-same, getD-set-other, take-suc}
 use borrow.Author.Tests.{eq-eqb, ne-eqb}
+use Rattle.topology.specs.Level.{nextIn}
 use Rattle.folds.specs.Fold.{when, listTo, zeros}
 use Rattle.folds.proofs.Cases.{no-bool, by, either, eq-or-ne, both}
 use Rattle.folds.proofs.Lists.{getD-listTo, getD-zeros}
@@ -17,7 +18,7 @@ use Rattle.contraction.specs.Rules.{pair, Round}
 use Rattle.contraction.specs.Tests.{allOf}
 use Rattle.contraction.specs.Next.{mateOf}
 use Rattle.matching.specs.Choice.{visit, visits}
-use Rattle.matching_scan.specs.State.{nextIn, Blocking}
+use Rattle.matching_scan.specs.State.{Blocking}
 use Rattle.matching.specs.Contracts.{anyOf, Holds, Tall}
 use Rattle.matching.proofs.Fits.{any-of-cons}
 

@@ -17,12 +17,12 @@ use Rattle.graph.specs.Coarse.{Coarse}
 use Rattle.graph.proofs.Walks.{acyclic-map}
 use Rattle.graph.proofs.Edges.{identity-at}
 use Rattle.graph.proofs.Coarse.{coarse-edge}
-use Rattle.topology.specs.Level.{levelsOf}
+use Rattle.topology.specs.Level.{levelsOf, nextIn}
 use Rattle.topology.specs.Order.{orderOf}
 use Rattle.topology.proofs.Same.{Same, order-same, levels-same}
 use Rattle.contraction.specs.Rules.{Pair, pair, Round}
 use Rattle.contraction.proofs.Rounds.{identity-clusters}
-use Rattle.contraction.specs.Tests.{allOf, next, onlySuccessor, onlyPredecessor, ruleOne, ruleTwo, fits}
+use Rattle.contraction.specs.Tests.{allOf, onlySuccessor, onlyPredecessor, ruleOne, ruleTwo, fits}
 use Rattle.matching.specs.Choice.{mayTake, offer, widest, taken, visit, visits, roundOf}
 use Rattle.matching.specs.Contracts.{RoundReady}
 
@@ -38,7 +38,7 @@ all-of-ext t s (p ∷ ps) h = rw (h p, all-of-ext t s ps h)
 -- the rules depend only on which clusters are joined
 module _ (A B : Arcs) (S : Same A B) (levels : List ℕ) (g : ℕ) where
   one-same : (p : Pair) → ruleOne A levels g p ≡ ruleOne B levels g p
-  unfolding ruleOne onlySuccessor onlyPredecessor next
+  unfolding ruleOne onlySuccessor onlyPredecessor nextIn
   one-same p =
       rw (
         S (p .from) (p .to),
@@ -47,7 +47,7 @@ module _ (A B : Arcs) (S : Same A B) (levels : List ℕ) (g : ℕ) where
       )
 
   two-same : (p q : Pair) → ruleTwo A levels g p q ≡ ruleTwo B levels g p q
-  unfolding ruleTwo next
+  unfolding ruleTwo nextIn
   two-same p q = rw (S (p .from) (q .to))
 
   fits-same : (ps : Round) (p : Pair) → fits A levels g ps p ≡ fits B levels g ps p

@@ -16,13 +16,13 @@ use Rattle.folds.proofs.Lists.{getD-listTo}
 use Rattle.graph.specs.Graph.{Graph, Arcs, seen, edge, Edge, widthOf, partCost, Inside}
 use Rattle.graph.proofs.Links.{leave-at}
 use Rattle.graph.proofs.Edges.{arc-edge, edge-arc, edge-other, edge-inside, row-inside}
-use Rattle.topology.specs.Level.{levelsOf}
+use Rattle.topology.specs.Level.{levelsOf, nextIn}
 use Rattle.contraction.specs.Rules.{pair, Round, pairAt, Next, Keeps}
 use Rattle.contraction.specs.Tests.{fits}
 use Rattle.contraction.specs.Next.{mateOf}
 use Rattle.matching.specs.Choice.{mayTake, offer, widest, taken, visit}
 use Rattle.graph.specs.Coarse.{sent}
-use Rattle.matching_scan.specs.State.{leaves, nextIn, halts, haltsAt, offerIn, offerOf, Widest}
+use Rattle.matching_scan.specs.State.{leaves, halts, haltsAt, offerIn, offerOf, Widest}
 use Rattle.matching.specs.Contracts.{anyOf, Holds, Context}
 use Rattle.matching.proofs.Fits.{any-of-e, any-of-none, sent-width, all-only, only-all, Free, fits-free, free-fits}
 

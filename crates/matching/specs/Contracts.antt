@@ -12,8 +12,8 @@ use Rattle.graph.specs.Rows.{clusters}
 use Rattle.contraction.specs.Rules.{Pair, Round, Keeps}
 use Rattle.contraction.specs.Tests.{allOf}
 use Rattle.contraction.specs.Next.{mateOf}
-use Rattle.matching_scan.specs.State.{nextIn, Blocking}
-use Rattle.topology.specs.Level.{levelsOf, level}
+use Rattle.matching_scan.specs.State.{Blocking}
+use Rattle.topology.specs.Level.{levelsOf, level, nextIn}
 use Rattle.matching.specs.Choice.{visit, roundOf}
 
 -- a row on which a round can run

@@ -9,6 +9,7 @@ use lib.Dec.{eqb, ltb}
 use lib.ListN.{length, getD, set, length-set}
 use lib.Seq.{getD-set-same, getD-set-other}
 use borrow.Author.Tests.{eqb-true, eq-eqb, ne-eqb, ltb-true, ltb-false, lt-ltb, le-ltb}
+use Rattle.topology.specs.Level.{nextIn}
 use Rattle.folds.specs.Fold.{pick, when, sumTo, mostWidth}
 use Rattle.folds.proofs.Cases.{by, either, eq-or-ne, both, same-test, when-zero, when-le, and-false}
 use Rattle.folds.proofs.Sums.{sumTo-step, sumTo-mono, sumTo-less, sumTo-ext, sumTo-only}
@@ -17,7 +18,7 @@ use Rattle.graph.specs.Links.{Linked, leave}
 use Rattle.graph.specs.Coarse.{sent, Narrow}
 use Rattle.graph.proofs.Edges.{arc-edge}
 use Rattle.graph.proofs.Links.{leave-at, leave-from, stays, On, Only, Finds, sum-on, sum-next}
-use Rattle.matching_scan.specs.State.{leaves, Single, nextIn, halts, haltsAt, offerIn, offerOf, Widest, Better, blockedOf, Blocking}
+use Rattle.matching_scan.specs.State.{leaves, Single, halts, haltsAt, offerIn, offerOf, Widest, Better, blockedOf, Blocking}
 
 module _ (A : Arcs) (widths : List ℕ) (u : ℕ) where
   inner : (i : ℕ) → (leave A i ≡ u → ⊥) → A .from i ≡ u → crossing A widths i ≡ 0

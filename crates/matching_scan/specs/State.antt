@@ -6,6 +6,7 @@ use mathlib.Core.Logic.{_⊎_}
 use mathlib.Core.List.{List}
 use lib.Dec.{eqb, ltb}
 use lib.ListN.{length, getD, set}
+use Rattle.topology.specs.Level.{nextIn}
 use Rattle.folds.specs.Fold.{pick, when, sumTo}
 use Rattle.graph.specs.Graph.{Arcs, joining, Edge, crossing}
 use Rattle.graph.specs.Links.{Ended, leave}
@@ -25,10 +26,6 @@ pub record Simple (starts ends widths : List ℕ) : Type 0 where
   pub same : length widths ≡ length starts
   pub narrow : Narrow widths
   pub single : Single (joining starts ends)
-
--- the level of v is one above that of u, by an array of levels
-unfoldable pub nextIn : List ℕ → ℕ → ℕ → Bool
-nextIn levels u v = eqb (getD levels v 0) (getD levels u 0 + 1)
 
 -- edge j of u goes to the `to` of a pair, on the next level
 unfoldable pub halts : Arcs → List ℕ → List ℕ → ℕ → ℕ → Bool

@@ -4,11 +4,12 @@ ghost use mathlib.Core.Bool.{_||_};
 ghost use lib.Dec.{eqb};
 ghost use Prim.Native.Nat.{ℕ, _+_, _<_, _≤_};
 ghost use lib.ListN.{length, getD};
+ghost use Rattle.topology.specs.Level.{nextIn};
 ghost use Rattle.folds.specs.Fold.{sumTo, anyTo, mostCost};
 ghost use Rattle.graph.specs.Graph.{joining};
 ghost use Rattle.graph.specs.Links.{Linked, Ended, leave};
 ghost use Rattle.graph.specs.Coarse.{Narrow};
-ghost use Rattle.matching_scan.specs.State.{leaves, Single, nextIn, halts, haltsAt, offerIn, offerOf, Widest, Wins, Better, blockedOf, Blocking};
+ghost use Rattle.matching_scan.specs.State.{leaves, Single, halts, haltsAt, offerIn, offerOf, Widest, Wins, Better, blockedOf, Blocking};
 
 // The width of all edges that leave u.
 pub fn total(

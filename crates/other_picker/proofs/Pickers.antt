@@ -9,10 +9,10 @@ use Rattle.graph.specs.Walk.{Acyclic}
 use Rattle.graph.specs.Graph.{Graph, vertices, identity, seen, edge, Edge, widthOf, costIn, partCost, Formed, Inside}
 use Rattle.graph.specs.Rows.{clusters, Layer}
 use Rattle.graph.proofs.Edges.{row-inside}
-use Rattle.topology.specs.Level.{rise, levelsAfter, levelsOf}
+use Rattle.topology.specs.Level.{rise, levelsAfter, levelsOf, nextIn}
 use Rattle.topology.specs.Order.{waits, ready, orNone, orderFrom, orderOf}
 use Rattle.contraction.specs.Rules.{pair, Round, Keeps}
-use Rattle.contraction.specs.Tests.{allOf, next, onlySuccessor, onlyPredecessor, ruleOne, ruleTwo, fits}
+use Rattle.contraction.specs.Tests.{allOf, onlySuccessor, onlyPredecessor, ruleOne, ruleTwo, fits}
 use Rattle.contraction.specs.Next.{nextRow}
 use Rattle.contraction.proofs.Crossed.{case3}
 use Rattle.contraction.specs.Rounds.{rowAfter, AllKeep}
@@ -57,9 +57,9 @@ other-acyclic G F ac bound f i =
 
 -- on case 3 of document 01 the two pick different pairs
 pub picks-low : roundOf case3 4 (identity 4) ≡ pair 0 2 ∷ []
-unfolding case3 identity edge widthOf costIn partCost sumTo maxTo firstTo anyTo allTo listTo zeros clusters rise levelsAfter levelsOf waits ready orNone orderFrom orderOf allOf next onlySuccessor onlyPredecessor ruleOne ruleTwo fits mayTake offer widest taken visit visits roundOf
+unfolding case3 identity edge widthOf costIn partCost sumTo maxTo firstTo anyTo allTo listTo zeros clusters rise levelsAfter levelsOf waits ready orNone orderFrom orderOf allOf nextIn onlySuccessor onlyPredecessor ruleOne ruleTwo fits mayTake offer widest taken visit visits roundOf
 picks-low = refl
 
 pub picks-high : roundHigh case3 4 (identity 4) ≡ pair 0 3 ∷ []
-unfolding case3 identity edge widthOf costIn partCost sumTo maxTo firstTo anyTo allTo listTo zeros clusters rise levelsAfter levelsOf waits ready orNone orderFrom orderOf allOf next onlySuccessor onlyPredecessor ruleOne ruleTwo fits mayTake offer highest turns visitHigh visitsHigh roundHigh
+unfolding case3 identity edge widthOf costIn partCost sumTo maxTo firstTo anyTo allTo listTo zeros clusters rise levelsAfter levelsOf waits ready orNone orderFrom orderOf allOf nextIn onlySuccessor onlyPredecessor ruleOne ruleTwo fits mayTake offer highest turns visitHigh visitsHigh roundHigh
 picks-high = refl

@@ -7,35 +7,28 @@ use native.Mathlib.Omega.{arith}
 use lib.Dec.{ltb, leb}
 use lib.ListN.{getD, set, length-set}
 use lib.Seq.{getD-set-same, getD-set-other}
-use borrow.Author.Tests.{ltb-true, lt-ltb, le-ltb, leb-true, lt-leb, le-leb}
-use Rattle.folds.proofs.Cases.{both, either, eq-or-ne, same-test}
+use borrow.Author.Tests.{ltb-true, lt-ltb, le-ltb, leb-true}
+use Rattle.folds.proofs.Cases.{both, either, eq-or-ne}
 use Rattle.graph.specs.Graph.{partCost}
 use Rattle.part_sums.specs.declared.PartSums.{PartSums}
-use Rattle.part_sums.specs.Sums.{SumsOf, sumsAllow, Shifts, shifted, Shifted}
+use Rattle.part_sums.specs.Sums.{SumsOf, sizeAllowed, sumsAllow, Shifts, shifted, Shifted}
 
 set-others : (l : List ℕ) (a b x y u : ℕ) → (u ≡ a → ⊥) → (u ≡ b → ⊥) → getD (set (set l a x) b y) u 0 ≡ getD l u 0
 set-others l a b x y u n m = getD-set-other (set l a x) b u y 0 m ∙ getD-set-other l a u x 0 n
 
-module _ (S : PartSums) (from to cost bound : ℕ) where
-  -- the test, from what its branches say
-  pub allow-empties : getD (S .sums) from 0 ≤ cost → false ≡ sumsAllow S from to cost bound
-  unfolding sumsAllow
+-- the test, from what its branches say
+module _ (S : PartSums) (from cost size bound : ℕ) where
+  pub allow-empties : getD (S .sums) from 0 ≤ cost → false ≡ sizeAllowed S from cost size bound
+  unfolding sizeAllowed
   allow-empties l = rw (le-ltb cost (getD (S .sums) from 0) l)
 
-  pub allow-over : cost < getD (S .sums) from 0 → bound < getD (S .sums) to 0 → false ≡ sumsAllow S from to cost bound
-  unfolding sumsAllow
-  allow-over l h = rw (lt-ltb cost (getD (S .sums) from 0) l, lt-leb (getD (S .sums) to 0 + cost) bound (omega arith))
+  pub allow-last : cost < getD (S .sums) from 0 → leb size bound ≡ sizeAllowed S from cost size bound
+  unfolding sizeAllowed
+  allow-last l = rw (lt-ltb cost (getD (S .sums) from 0) l)
 
-  pub allow-last : cost < getD (S .sums) from 0 → getD (S .sums) to 0 ≤ bound → leb cost (bound - getD (S .sums) to 0) ≡ sumsAllow S from to cost bound
-  unfolding sumsAllow
-  allow-last l h =
-      rw (lt-ltb cost (getD (S .sums) from 0) l)
-      (same-test (leb cost (bound - getD (S .sums) to 0)) (leb (getD (S .sums) to 0 + cost) bound)
-      (λ t. let l = leb-true cost (bound - getD (S .sums) to 0) t in le-leb (getD (S .sums) to 0 + cost) bound (omega arith))
-      (λ t. let l = leb-true (getD (S .sums) to 0 + cost) bound t in le-leb cost (bound - getD (S .sums) to 0) (omega arith)))
-
+module _ (S : PartSums) (from to cost bound : ℕ) where
   pub allowed-shifts : sumsAllow S from to cost bound ≡ true → from < 16 → to < 16 → bound < 2 ^ 32 → Shifts S from to cost
-  unfolding sumsAllow
+  unfolding sizeAllowed
   allowed-shifts e l m b =
       let (x, y) = both (ltb cost (getD (S .sums) from 0)) _ e in
       let less = ltb-true cost (getD (S .sums) from 0) x in

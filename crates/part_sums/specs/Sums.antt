@@ -14,9 +14,12 @@ pub record SumsOf (costs parts : List ℕ) (k : ℕ) (S : PartSums) : Type 0 whe
   pub long : length (S .sums) ≡ 16
   pub is : (u : ℕ) → u < 16 → getD (S .sums) u 0 ≡ partCost costs parts u
 
--- both halves of "allowed": the old part is not emptied, and the new one stays within the bound
-unfoldable pub sumsAllow : PartSums → ℕ → ℕ → ℕ → ℕ → Bool
-sumsAllow S from to cost bound = ltb cost (getD (S .sums) from 0) && leb (getD (S .sums) to 0 + cost) bound
+-- both halves of "allowed": the old part is not emptied, and the new one, of that size, stays within the bound
+unfoldable pub sizeAllowed : PartSums → ℕ → ℕ → ℕ → ℕ → Bool
+sizeAllowed S from cost size bound = ltb cost (getD (S .sums) from 0) && leb size bound
+
+abbrev pub sumsAllow : PartSums → ℕ → ℕ → ℕ → ℕ → Bool
+sumsAllow S from to cost bound = sizeAllowed S from cost (getD (S .sums) to 0 + cost) bound
 
 -- a cost that can go from one part to another
 pub record Shifts (S : PartSums) (from to cost : ℕ) : Type 0 where

@@ -1,13 +1,23 @@
 // The record of part sums: made of a table, asked whether a move is allowed, and moved.
 ghost use mathlib.Core.Path.{_≡_};
 ghost use Prim.Native.Nat.{_<_};
+ghost use lib.ListN.{length};
+ghost use Rattle.folds.specs.Fold.{Read};
 ghost use Rattle.graph.specs.Totals.{Keyed};
-ghost use Rattle.part_sums.specs.Sums.{SumsOf, sumsAllow, Shifts, Shifted};
+ghost use Rattle.part_sums.specs.Sums.{SumsOf, sizeAllowed, sumsAllow, Shifts, Shifted};
 
 // The cost of each of up to 16 parts, and how many parts there are.
 pub struct PartSums {
     pub sums: [u32; 16],
     pub count: usize,
+}
+
+// A part's sum in 64 bits, with its bound.
+fn sum_at(sums: &[u32], u: usize) -> u64
+    requires { ⌜ u < length (now sums) ⌝ }
+    ensures { λ r. ⌜ Read (now (sums .entry)) u 4294967296 r ⌝ }
+{
+    sums[u] as u64
 }
 
 impl PartSums {
@@ -24,19 +34,24 @@ impl PartSums {
         }
     }
 
-    // Whether a cost may go from one part to another: the old part is not emptied, and the new one stays within the bound.
-    pub fn allows(self, from: usize, to: usize, cost: u32, bound: u32) -> bool
-        requires { ⌜ (from < 16) × (to < 16) ⌝ }
-        ensures { λ r. ⌜ r ≡ sumsAllow self from to cost bound ⌝ }
+    // Whether a cost may leave a part for one that has then the new size: the old part is not emptied, and the new one stays within the bound.
+    pub fn allows(self, from: usize, cost: u32, size: u64, bound: u32) -> bool
+        requires { ⌜ from < 16 ⌝ }
+        ensures { λ r. ⌜ r ≡ sizeAllowed self from cost size bound ⌝ }
     {
         if self.sums[from] <= cost {
             return false;
         }
-        let new = self.sums[to];
-        if bound < new {
-            return false;
-        }
-        cost <= bound - new
+        size <= bound as u64
+    }
+
+    // Whether a cost may go from one part to another, whose size is then its sum with that cost.
+    pub fn lets(self, from: usize, to: usize, cost: u32, bound: u32) -> bool
+        requires { ⌜ (from < 16) × (to < 16) ⌝ }
+        ensures { λ r. ⌜ r ≡ sumsAllow self from to cost bound ⌝ }
+    {
+        let size = sum_at(&self.sums, to) + cost as u64;
+        self.allows(from, cost, size, bound)
     }
 
     // The record after a cost has gone from one part to another.

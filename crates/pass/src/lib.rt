@@ -41,7 +41,7 @@ fn better(
     if toward[t] <= toward[best] {
         return best;
     }
-    let allowed = sums.allows(own, t, cost, bound);
+    let allowed = sums.lets(own, t, cost, bound);
     if allowed {
         return t;
     }
@@ -99,7 +99,7 @@ fn back_barred(sums: PartSums, own: usize, high: usize, cost: u32, bound: u32) -
     if own < high {
         return true;
     }
-    let allowed = sums.allows(own, high - 1, cost, bound);
+    let allowed = sums.lets(own, high - 1, cost, bound);
     !allowed
 }
 
@@ -118,7 +118,7 @@ fn idle(sums: PartSums, own: usize, low: usize, high: usize, cost: u32, bound: u
     if sums.count <= low {
         return true;
     }
-    let allowed = sums.allows(own, low, cost, bound);
+    let allowed = sums.lets(own, low, cost, bound);
     !allowed
 }
 

@@ -25,7 +25,7 @@ use Rattle.refinement.proofs.Move.{cut-move, cost-new, cost-old, cost-third}
 use Rattle.refinement.proofs.Signed.{less-gain}
 use Rattle.refinement.proofs.Entries.{first-of, moved-at}
 use Rattle.neighbours.specs.Visit.{Placed, pullTo}
-use Rattle.part_sums.specs.Sums.{SumsOf, sumsAllow}
+use Rattle.part_sums.specs.Sums.{SumsOf, sizeAllowed, sumsAllow}
 use Rattle.pass.specs.Work.{betterOf, backOf, choiceOf, Work, begun, choiceAt, gainAt, movedBy, worked, Paid}
 use Rattle.part_sums.proofs.Sums.{shifted-sums}
 use Rattle.pass.proofs.Work.{placed-set, choice-below, choice-ext}
@@ -140,7 +140,7 @@ module _ (G : Graph) (P : Proper G) (k bound : ℕ) (row costs froms tos widths 
   upd t v l = moved-at row h t parts v (omega (arith, length-through row (w .table)))
 
   allows-sums : (t : ℕ) → (own ≡ t → ⊥) → t < 16 → allows G bound row parts h t ≡ sumsAllow (w .sums) own t cost bound
-  unfolding allows sumsAllow parts cost
+  unfolding allows sizeAllowed parts cost
   allows-sums t n l =
       rw (stays-sum G P row parts h own all own-is, size-cost G (movedTo row h t parts) t, cost-new G (P .formed) row parts (movedTo row h t parts) h own t all (upd t) n, R .is own own-low, R .is t l, cost-is)
       (and-swap (leb (partCost (G .costs) parts t + partCost (G .costs) row h) bound) (ltb (partCost (G .costs) row h) (partCost (G .costs) parts own)))

@@ -98,10 +98,6 @@ module _ (A : Arcs) where
             go here e p = absurd (omega arith)
             go (step {u = u} q t) e p = (u, t, omega (arith, level-rises u v t, path-level q (edge-inside A g inside u v t .0)))
 
-        -- nothing but the level has the two laws
-        pub level-unique : (v i : ℕ) → v < g → Path (Edge A) i v → ((i′ : ℕ) → Path (Edge A) i′ v → i′ ≤ i) → i ≡ level A g v
-        level-unique v i h q top = omega (arith, path-level q h, top (level A g v) (level-path v h))
-
 -- past the clusters the level is 0
 pub level-past : (A : Arcs) (g v : ℕ) → g ≤ v → level A g v ≡ 0
 unfolding level

@@ -1,6 +1,6 @@
 -- Levels of clusters.
-use Prim.Native.Nat.{ℕ, zero, suc}
-use mathlib.Core.Bool.{not, _&&_}
+use Prim.Native.Nat.{ℕ, zero, suc, _+_}
+use mathlib.Core.Bool.{Bool, not, _&&_}
 use mathlib.Core.List.{List}
 use lib.Dec.{eqb}
 use lib.ListN.{getD}
@@ -22,3 +22,7 @@ levelsOf A g = levelsAfter A g g
 
 unfoldable pub level : Arcs → ℕ → ℕ → ℕ
 level A g v = getD (levelsOf A g) v 0
+
+-- the level of v is one above that of u, by a list of levels
+unfoldable pub nextIn : List ℕ → ℕ → ℕ → Bool
+nextIn levels u v = eqb (getD levels v 0) (getD levels u 0 + 1)

@@ -14,4 +14,4 @@ back-barred-spec =
     (λ c. λ _ f. sym (back-above f _ _ _ _ _ (c .if2 .taken)))
     (λ c. search needs)
     (λ c κs. search needs)
-    (λ c. λ e f. back-shut f _ _ _ _ _ (sym (c .allows .ensures) ∙ not-yes _ e)))
+    (λ c. λ e f. back-shut f _ _ _ _ _ (sym (c .lets .ensures) ∙ not-yes _ e)))

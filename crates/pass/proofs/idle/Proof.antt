@@ -15,4 +15,4 @@ idle-spec =
     (λ c. λ _. idle-under _ _ _ _ _ _ (c .if2 .taken) (c .before .before .back-barred .ensures (not-no _ (c .before .if1 .left))))
     (λ c. λ _. idle-none _ _ _ _ _ _ (c .before .before .if2 .left) (c .if3 .taken) (c .before .before .before .before .back-barred .ensures (not-no _ (c .before .before .before .if1 .left))))
     (λ c κs. search needs)
-    (λ c. λ e. idle-shut _ _ _ _ _ _ (sym (c .allows .ensures) ∙ not-yes _ e) (c .before .before .before .before .before .back-barred .ensures (not-no _ (c .before .before .before .before .if1 .left)))))
+    (λ c. λ e. idle-shut _ _ _ _ _ _ (sym (c .lets .ensures) ∙ not-yes _ e) (c .before .before .before .before .before .back-barred .ensures (not-no _ (c .before .before .before .before .if1 .left)))))

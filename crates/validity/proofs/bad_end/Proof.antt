@@ -1,7 +1,6 @@
 -- Where none is refused, the lowest is past the last.
 use Rattle.validity.proofs.Checks.{none-first}
 use native.Mathlib.Omega.{arith}
-use borrow.Author.Needs.{needs}
 use Rattle.validity.proofs.bad_end.Statement.{statement}
 use Rattle.validity.proofs.bad_end.Tie as tie
 

@@ -1,5 +1,5 @@
--- Each branch is one half of `sumsAllow`.
-use Rattle.part_sums.proofs.Sums.{allow-empties, allow-over, allow-last}
+-- Each branch is one half of the test.
+use Rattle.part_sums.proofs.Sums.{allow-empties, allow-last}
 use borrow.Author.Needs.{needs}
 use Rattle.part_sums.proofs.PartSums.allows.Statement.{statement}
 use Rattle.part_sums.proofs.PartSums.allows.Tie as tie
@@ -11,7 +11,4 @@ allows-spec =
     (λ c. search needs)
     (λ c. search needs)
     (λ c. search allow-empties)
-    (λ c. search needs)
-    (λ c. search needs)
-    (λ c. search allow-over)
     (λ c. search allow-last))
