@@ -210,7 +210,7 @@ fn partition(
 }
 
 // Checks 1 to 8 with at most `most` vertices, then the phases; 9 where no rung can be cut.
-pub fn split_within(
+fn split_within(
     most: usize,
     costs: &[u16],
     starts: &[u16],
