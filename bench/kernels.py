@@ -1,6 +1,6 @@
 #!/usr/bin/env python3
 """Writes kits as SHAPE-SIZE-kSTAGES-LIMIT.kit: task graphs of small PolyBench kernels, drawn
-shapes of growing size, and kits that are refused late.
+shapes of growing size, kits whose stages are evened out for many passes, and kits that are refused late.
 
 A task is one run of a kernel's statement; its cost is 1 for each operation. A wire runs from
 the last task that wrote an array element to each task that reads it, as wide as the elements
@@ -242,6 +242,56 @@ def write_all(folder, shape, size, g):
             write(folder, "%s-%03d-k%02d-%s" % (shape, size, k, word), g, k, limit)
 
 
+# Kits whose first cut is very uneven and whose passes even it out, at the same cut, for long.
+
+def slow_chain(n, cost):
+    """A chain of a fifth of the blocks, numbered against its wires, and a star of the rest. The first cut ends
+    the early stages after one block each. A block goes over to the stage before as soon as its sender has
+    gone, but it was visited before its sender: a pass moves one block over each border. A longer chain
+    would be joined: its pairs would be a tenth of the blocks."""
+    long = n // 5 - 2
+    g = Tasks()
+    g.costs = [cost(v, long) for v in range(long)] + [1] * (n - long)
+    g.wires = {(v, v - 1): 1 for v in range(long - 1, 0, -1)}
+    g.wires.update({(long, v): 2 for v in range(long + 1, n)})
+    return g
+
+
+def slow_hubs(n, k):
+    """One costly block a stage, for a limit that two of them exceed, and between each two a bundle of
+    blocks that are as well in the one's stage as in the other's. Numbered against the wires."""
+    each = (n - k) // (k - 1)
+    step = 120000 // (each * each)
+    g = Tasks()
+    hubs = [v * (each + 1) for v in range(k)]
+    last = hubs[-1]
+    g.costs = [1 + step * (v % (each + 1)) for v in range(last + 1)]
+    for hub in hubs:
+        g.costs[hub] = 65535
+    for a, b in zip(hubs, hubs[1:]):
+        for v in range(a + 1, b):
+            g.wires[(b, v)] = g.wires[(v, a)] = 1
+    return g
+
+
+def free(n):
+    """No wires: every stage is open to every block. Each costs a fiftieth more than the one before."""
+    g = Tasks()
+    g.costs = [1 + int(1.02 ** v) for v in range(n)]
+    return g
+
+
+def write_evening(folder):
+    r = random.Random(9)
+    for n in (256, 512):
+        drawn_costs = slow_chain(n, lambda v, long: r.randint(1, 9))
+        rising = slow_chain(n, lambda v, long: 1 + int(1.1 ** (long - v)))
+        for k in (4, 16):
+            for word, g in (("chain", drawn_costs), ("rising", rising), ("free", free(n))):
+                write(folder, "evening-%s-%03d-k%02d-loose" % (word, n, k), g, k, sum(g.costs))
+            write(folder, "evening-hubs-%03d-k%02d-one_hub" % (n, k), slow_hubs(n, k), k, 2 * 65535 - 1)
+
+
 def write_refused(folder):
     """Of 512 blocks: the last wire repeats, the wires form one loop, a loop of the last blocks alone,
     before a chain or at both its ends, and no rung can be cut."""
@@ -299,6 +349,7 @@ def main():
         for n in sizes:
             write_all(folder, shape, n, drawn(make, n, False))
             write_all(folder, shape + "_shuffled", n, drawn(make, n, True))
+    write_evening(folder)
     write_refused(folder)
 
 

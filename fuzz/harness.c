@@ -2,8 +2,8 @@
  *
  * An input is a kit text as it stands, or a recipe: its bytes choose a sound kit, a fault to give it, and a table. A fault
  * has one answer, number and place, and the call has to give that one. Demanded besides: entries past those named keep
- * their guards; a refusal leaves the tables; a table that the split answers passes inspection with the same cut; inspection
- * agrees with the one below; a text that is read is the printing of what was read. */
+ * their guards; a refusal leaves the tables; a table that the split answers passes inspection with the same cut, and no
+ * single move is left in it; inspection agrees with the one below; a text that is read is the printing of what was read. */
 #include <stdarg.h>
 #include <stdio.h>
 #include <stdlib.h>
@@ -161,7 +161,8 @@ static void sound(void)
             uint16_t l = label[v];
             label[v] = label[w], label[w] = l;
         }
-    draw_wires(label, one_in(16) ? HATCH_WIRES : below(2 * n + 1) % (HATCH_WIRES + 1));
+    size_t few = one_in(4) ? 1 + n / 4 : 2 * n + 1; /* few wires: many moves that only even out stages */
+    draw_wires(label, one_in(16) ? HATCH_WIRES : below(few) % (HATCH_WIRES + 1));
     size_t share = total / k, loose = below(4);
     limit = (uint32_t)(loose == 0 ? total : share + below(share + 1) * loose / 4 + below(largest + 1));
     if (limit < largest)
@@ -244,6 +245,32 @@ static size_t verdict(uint32_t *number, uint16_t *starts)
     return *number = 0, cut;
 }
 
+/* Nothing is left to move: no block has an allowed candidate of gain above 0, or of gain 0 by which the larger cost of the
+ * two stages becomes smaller. The candidates are the stages from the highest of the senders to the lowest of the receivers. */
+static void settled(void)
+{
+    static uint32_t width[BLOCKS][HATCH_STAGES];
+    static size_t low[BLOCKS], high[BLOCKS];
+    uint64_t sums[HATCH_STAGES] = {0};
+    memset(width, 0, sizeof width);
+    for (size_t v = 0; v < n; v++)
+        sums[table[v]] += costs[v], low[v] = 0, high[v] = k - 1;
+    for (size_t e = 0; e < m; e++) {
+        size_t a = wires[0][e], b = wires[1][e];
+        width[a][table[b]] += wires[2][e], width[b][table[a]] += wires[2][e];
+        low[b] = table[a] > low[b] ? table[a] : low[b];
+        high[a] = table[b] < high[a] ? table[b] : high[a];
+    }
+    for (size_t v = 0; v < n; v++)
+        for (size_t own = table[v], t = low[v]; t <= high[v] && sums[own] > costs[v]; t++) {
+            uint64_t after = sums[t] + costs[v];
+            if (t == own || after > limit)
+                continue;
+            DEMAND(width[v][t] <= width[v][own]);
+            DEMAND(width[v][t] < width[v][own] || after >= sums[own]);
+        }
+}
+
 static void judged(void)
 {
     uint16_t starts[HATCH_STAGES];
@@ -266,6 +293,7 @@ static void tables(void)
         DEMAND(inspect(n, k) == 0 && answer[0] == cut);
         for (size_t s = 0; s < k; s++)
             DEMAND(order[s] == s);
+        settled();
     }
     size_t change = below(6), changes = 1 + below(4), a = below(k), b = below(k);
     if (change == 0) /* an entry of k or more */

@@ -76,7 +76,8 @@ enum {
  *
  * 0: table[0 .. n-1] is each block's stage, 0 to k-1. ladder[r*n .. r*n + n-1] is each
  *    block's group on rung r, for r from 0 to the rounds kept; later rows are untouched.
- *    answer: the cut, the rounds kept, the rung that was cut, the number of moves.
+ *    answer: the cut, the rounds kept, the rung that was cut, the number of moves that
+ *    lowered the cut. Moves that only even out stages, at the same cut, are not counted.
  * 9: the table is untouched; the ladder holds its rows.
  * 1 to 8: table and ladder are untouched. */
 uint32_t hatch_split(const uint16_t *costs, size_t costs_len,

@@ -115,6 +115,23 @@ fn reference(l: &Lists, o: &mut Outcome) {
     }
 }
 
+/// The passes of a split over all rungs, each rung's last one too, which moves nothing; 0 if it is refused.
+fn passes_of(l: &Lists) -> u32 {
+    let (mut o, mut passes) = (Outcome::new(), 0);
+    let _ = reference::split_telling(
+        &l.costs,
+        &l.starts,
+        &l.ends,
+        &l.widths,
+        l.k as u32,
+        l.limit,
+        &mut o.table,
+        &mut o.ladder,
+        |rung| passes += rung.passes,
+    );
+    passes
+}
+
 fn load(path: &Path) -> Lists {
     let text = std::fs::read(path).expect("a kit file");
     let (mut c, mut s, mut e, mut w) = ([0; 512], [0; 1024], [0; 1024], [0; 1024]);
@@ -211,6 +228,7 @@ impl Ratios {
 struct Row {
     name: String,
     refused: bool,
+    passes: u32,
     times: Vec<f64>,
 }
 
@@ -270,13 +288,16 @@ fn main() {
             println!("{name}: the answers differ");
         }
         deepest = deepest.max(stack_of(&l));
-        rows.push(Row { name, refused: outcomes[0].number != 0, times: medians(calls, &l, turns) });
+        let (refused, passes) = (outcomes[0].number != 0, passes_of(&l));
+        rows.push(Row { name, refused, passes, times: medians(calls, &l, turns) });
     }
 
-    let mut text = format!("median microseconds of {turns} turns: {}\n", names.join(", "));
+    let mut text =
+        format!("median microseconds of {turns} turns: {}; library / reference; passes\n", names.join(", "));
     for row in &rows {
         let times: Vec<String> = row.times.iter().map(|t| format!("{t:9.1}")).collect();
-        writeln!(text, "{:<40} {} {:6.2}", row.name, times.join(" "), row.times[0] / row.times[1]).unwrap();
+        let ratio = row.times[0] / row.times[1];
+        writeln!(text, "{:<40} {} {ratio:6.2} {:5}", row.name, times.join(" "), row.passes).unwrap();
     }
     let path = Path::new(&args[1]).with_file_name("times.txt");
     std::fs::write(&path, text).expect("a file for the times");
@@ -294,6 +315,9 @@ fn main() {
             slowest(&rows, false, call),
             slowest(&rows, true, call)
         );
+    }
+    if let Some(row) = rows.iter().max_by_key(|row| row.passes) {
+        println!("most passes of a split: {} ({})", row.passes, row.name);
     }
     println!("most stack {deepest} bytes, {differ} answers differ");
     std::process::exit((differ > 0) as i32);

@@ -210,6 +210,28 @@ pub fn sound(r: &mut Rng, shape: Shape) -> Instance {
     Instance { weights, edges, k, bound }
 }
 
+/// A sound kit whose first cut is uneven and whose stages are then evened out: few wires, all of one width so that
+/// many moves gain 0, costs of every magnitude, mostly 16 stages, and a limit that matters little or not at all.
+pub fn uneven(r: &mut Rng) -> Instance {
+    let name = r.pick(&["chain", "in-tree", "sparse", "no wires", "strands"]);
+    let (_, shape) = *SHAPES.iter().find(|shape| shape.0 == name).expect("a shape's name");
+    let mut kit = sound(r, shape);
+    while kit.weights.len() < 20 {
+        kit = sound(r, shape); // as many blocks as stages leave nothing to move
+    }
+    let width = r.range(1, 3) as u32;
+    kit.edges.iter_mut().for_each(|edge| edge.2 = width);
+    for weight in &mut kit.weights {
+        let highest = 1 << r.below(16);
+        *weight = r.range(1, highest) as u32;
+    }
+    kit.k = if r.one_in(3) { r.range(1, 16) } else { 16 } as u32;
+    let total: u32 = kit.weights.iter().sum();
+    let highest = *kit.weights.iter().max().expect("at least one vertex");
+    kit.bound = r.pick(&[total, total, total / 2, 2 * total.div_ceil(kit.k)]).max(highest);
+    kit
+}
+
 fn values(r: &mut Rng, count: usize) -> Vec<u32> {
     let highest = r.pick(&[1, 1, 2, 9, 300, 65_535]);
     let rare = r.one_in(8).then(|| r.range(2, 20));
@@ -252,8 +274,11 @@ pub fn case(seed: u64, index: u64) -> Case {
         let kit = sound(&mut r, shape);
         return Case { kind, text: damage(&mut r, kit) };
     }
-    let (kind, shape) = SHAPES[(2 * at + (index % 3) as usize) % SHAPES.len()];
-    Case { kind, text: sound(&mut r, shape).text().into_bytes() }
+    let (kind, kit) = match SHAPES.get((2 * at + (index % 3) as usize) % (SHAPES.len() + 1)) {
+        Some(&(kind, shape)) => (kind, sound(&mut r, shape)),
+        None => ("uneven", uneven(&mut r)),
+    };
+    Case { kind, text: kit.text().into_bytes() }
 }
 
 /// A table to inspect with the kit of the same seed and index.

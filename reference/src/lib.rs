@@ -1,4 +1,4 @@
-//! An acyclic graph partitioner by document 01: joining, first cut, moves.
+//! An acyclic graph partitioner by document 01 with request a of document 02: joining, first cut, moves.
 //!
 //! Document 01's blocks, wires, groups and stages are vertices, edges, clusters and parts
 //! here. Its rungs are the levels of a hierarchy.
@@ -29,7 +29,19 @@ pub struct Split {
     pub rounds: u32,
     /// The rung that was cut.
     pub rung: u32,
+    /// Moves that lowered the cut; those that only evened out parts are not counted.
     pub moves: u32,
+}
+
+/// What the passes did on one rung.
+#[derive(Clone, Copy, Debug, Default)]
+pub struct Passes {
+    pub rung: usize,
+    /// With the last one, which moves nothing.
+    pub passes: u32,
+    /// Moves of gain above 0, and those that only evened out parts.
+    pub gained: u32,
+    pub evened: u32,
 }
 
 /// Splits a kit: writes the stage table (`parts`) and the ladder.
@@ -43,6 +55,23 @@ pub fn split(
     bound: u32,
     parts: &mut [u16],
     ladder: &mut [u16],
+) -> Result<Split, Refusal> {
+    split_telling(costs, starts, ends, widths, k, bound, parts, ladder, |_| ())
+}
+
+/// The same; `tell` hears of the passes on each rung.
+#[allow(clippy::too_many_arguments)]
+#[inline]
+pub fn split_telling(
+    costs: &[u16],
+    starts: &[u16],
+    ends: &[u16],
+    widths: &[u16],
+    k: u32,
+    bound: u32,
+    parts: &mut [u16],
+    ladder: &mut [u16],
+    mut tell: impl FnMut(Passes),
 ) -> Result<Split, Refusal> {
     let room = |n| parts.len() >= n && ladder.len() >= 9 * n;
     let (graph, order) = check(Lists { costs, starts, ends, widths }, k, bound, room)?;
@@ -68,10 +97,14 @@ pub fn split(
         if below < rung {
             part = level.cluster.iter().map(|&c| part[c as usize]).collect();
         }
-        refine::refine(&level.graph, &mut part, &mut loads, bound, |step, _| {
-            moves += 1;
+        let mut done = Passes { rung: below, ..Passes::default() };
+        done.passes = refine::refine(&level.graph, &mut part, &mut loads, bound, |step, _| {
+            done.gained += (step.gain > 0) as u32;
+            done.evened += (step.gain == 0) as u32;
             cut -= step.gain as u64;
         });
+        moves += done.gained;
+        tell(done);
     }
     parts[..part.len()].copy_from_slice(&part);
     Ok(Split { cut, rounds: levels.len() as u32 - 1, rung: rung as u32, moves })

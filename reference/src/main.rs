@@ -2,7 +2,7 @@
 
 mod compare;
 
-use reference::text::{answer, read_table, verdict, MAX_TEXT};
+use reference::text::{answer, passes, read_table, verdict, MAX_TEXT};
 use reference::{digest, generate};
 use std::fs::{self, File};
 use std::io::{self, Read, Write};
@@ -10,6 +10,7 @@ use std::process::ExitCode;
 
 const USAGE: &str = "usage:
   reference split                      kit text on standard input
+  reference passes                     the same text; how many passes each rung took
   reference inspect KITFILE TABLEFILE
   reference one SEED INDEX             print that kit
   reference table SEED INDEX           print the table inspected with it
@@ -32,6 +33,7 @@ fn main() -> ExitCode {
 fn run(arguments: &[&str]) -> Result<ExitCode, String> {
     match *arguments {
         ["split"] => print(&answer(&read(io::stdin(), "standard input")?))?,
+        ["passes"] => print(&passes(&read(io::stdin(), "standard input")?))?,
         ["inspect", kit, table] => {
             let text = read(open(kit)?, kit)?;
             let parts = read_table(&read(open(table)?, table)?)

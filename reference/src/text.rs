@@ -1,7 +1,7 @@
 //! The text formats: kits and tables in, answers out.
 
 use crate::check::{refuse, Refusal, MAX_EDGES, MAX_VERTICES};
-use crate::{inspect, split, Split};
+use crate::{inspect, split_telling, Passes, Split};
 use std::io::Write;
 
 pub const MAX_TEXT: usize = 65_536;
@@ -119,10 +119,16 @@ fn load(text: &[u8]) -> Result<Loaded, Refusal> {
 
 /// Reads a kit text and splits it: the answer and the stage table.
 pub fn split_text(text: &[u8]) -> Result<(Split, Vec<u16>), Refusal> {
+    split_text_telling(text, |_| ())
+}
+
+/// The same; `tell` hears of the passes on each rung.
+pub fn split_text_telling(text: &[u8], tell: impl FnMut(Passes)) -> Result<(Split, Vec<u16>), Refusal> {
     let Loaded { kit, costs, starts, ends, widths } = load(text)?;
+    let (k, limit) = (kit.stages, kit.limit);
     let mut parts = vec![0; MAX_VERTICES];
     let mut ladder = vec![0; 9 * MAX_VERTICES];
-    let answer = split(&costs, &starts, &ends, &widths, kit.stages, kit.limit, &mut parts, &mut ladder)?;
+    let answer = split_telling(&costs, &starts, &ends, &widths, k, limit, &mut parts, &mut ladder, tell)?;
     parts.truncate(kit.blocks);
     Ok((answer, parts))
 }
@@ -165,6 +171,15 @@ pub fn answer(text: &[u8]) -> Vec<u8> {
         Ok((answer, parts)) => print_split(&answer, &parts),
         Err(refusal) => print_refusal(refusal),
     }
+}
+
+/// A line for each rung, from the one that was cut down: its passes and what they moved.
+pub fn passes(text: &[u8]) -> Vec<u8> {
+    let mut out = Vec::new();
+    let told = split_text_telling(text, |Passes { rung, passes, gained, evened }| {
+        writeln!(out, "(rung {rung} (passes {passes}) (gained {gained}) (evened {evened}))").unwrap();
+    });
+    told.map_or_else(print_refusal, |_| out)
 }
 
 /// What the inspecting program prints for this text and table.

@@ -1,4 +1,4 @@
-//! Some thousands of small kits against document 01 written down naively.
+//! Some thousands of small kits against document 01 and request a written down naively.
 
 mod naive;
 
@@ -54,22 +54,68 @@ fn kit(r: &mut Rng, most_blocks: usize, most_stages: usize, rare: usize) -> Smal
     Small { costs, starts, ends, widths, k, limit }
 }
 
+/// Few wires or none, uneven costs, loose limits and up to 16 stages: what evens out for many passes.
+fn uneven(r: &mut Rng) -> Small {
+    let rare = r.pick(&[6, 12, 1_000]);
+    let mut kit = kit(r, 18, 16, rare);
+    let n = kit.costs.len();
+    if n > 11 {
+        kit.k = (n.min(16) - r.below(2)) as u32; // others have too many divisions to write down
+    }
+    let highest = r.pick(&[3, 9, 300]);
+    kit.costs.iter_mut().for_each(|cost| *cost = r.range(1, highest) as u16);
+    let total: u32 = kit.costs.iter().map(|&c| c as u32).sum();
+    let share = total.div_ceil(kit.k) + highest as u32;
+    kit.limit = r.pick(&[share, 2 * share, total]).max(highest as u32);
+    kit
+}
+
 #[test]
 fn splits_agree_with_the_naive_split() {
     let small = (0..6_000).map(|index| sound(&mut Rng::new(1, index)));
-    agree(small, [100, 100, 100, 0]);
+    agree(small, Seen { uncut: 100, moves: 100, evened: 100, both: 20, below: 100, high: 0 });
+    let loose = (0..2_000).map(|index| uneven(&mut Rng::new(6, index)));
+    agree(loose, Seen { uncut: 0, moves: 100, evened: 500, both: 40, below: 0, high: 0 });
     let medium = (0..600).map(|index| {
         let mut r = Rng::new(5, index);
         let rare = r.range(10, 40);
         kit(&mut r, 48, 3, rare)
     });
-    agree(medium, [20, 40, 20, 100]);
+    agree(medium, Seen { uncut: 20, moves: 40, evened: 100, both: 20, below: 20, high: 100 });
 }
 
-/// `least` is how many kits there must be with a 9, with moves, cut below the top rung,
-/// and with 4 or more rungs.
-fn agree(kits: impl Iterator<Item = Small>, least: [u32; 4]) {
-    let mut seen = [0; 4];
+/// How many kits there were of a kind.
+#[derive(Debug, Default)]
+struct Seen {
+    /// Refused with 9.
+    uncut: u32,
+    /// With moves that gain, with moves that even out, and with both.
+    moves: u32,
+    evened: u32,
+    both: u32,
+    /// Cut below the top rung.
+    below: u32,
+    /// With 4 or more rungs.
+    high: u32,
+}
+
+impl Seen {
+    fn count(&mut self, made: &naive::Split) {
+        let (gained, evened) = (made.moves > 0, made.evened > 0);
+        self.moves += gained as u32;
+        self.evened += evened as u32;
+        self.both += (gained && evened) as u32;
+        self.below += (made.rung < made.rounds) as u32;
+        self.high += (made.rounds >= 4) as u32;
+    }
+
+    fn counts(&self) -> [u32; 6] {
+        [self.uncut, self.moves, self.evened, self.both, self.below, self.high]
+    }
+}
+
+fn agree(kits: impl Iterator<Item = Small>, least: Seen) {
+    let mut seen = Seen::default();
     for (index, kit) in kits.enumerate() {
         let n = kit.costs.len();
         let blocks = naive::rung(&kit.costs, kit.wires());
@@ -91,18 +137,16 @@ fn agree(kits: impl Iterator<Item = Small>, least: [u32; 4]) {
                 let refusal = answer.unwrap_err();
                 assert_eq!((refusal.number, refusal.place), (9, 0), "index {index}");
                 assert!(parts.iter().all(|&p| p == GUARD));
-                seen[0] += 1;
+                seen.uncut += 1;
             }
-            Some((cut, rounds, rung, moves, stages)) => {
+            Some(made) => {
                 let a = answer.unwrap();
                 let numbers = (a.cut, a.rounds as usize, a.rung as usize, a.moves as usize);
-                assert_eq!(numbers, (cut, rounds, rung, moves), "index {index}");
-                let mut table: Vec<u16> = stages.iter().map(|&s| s as u16).collect();
+                assert_eq!(numbers, (made.cut, made.rounds, made.rung, made.moves), "index {index}");
+                let mut table: Vec<u16> = made.stages.iter().map(|&s| s as u16).collect();
                 table.resize(n + 2, GUARD);
                 assert_eq!(parts, table, "index {index}");
-                seen[1] += (moves > 0) as u32;
-                seen[2] += (rung < rounds) as u32;
-                seen[3] += (rounds >= 4) as u32;
+                seen.count(&made);
 
                 let mut order = vec![GUARD; kit.k as usize + 2];
                 let inspected = inspect(
@@ -115,21 +159,21 @@ fn agree(kits: impl Iterator<Item = Small>, least: [u32; 4]) {
                     &parts,
                     &mut order,
                 );
-                assert_eq!(inspected, Ok(cut), "index {index}");
+                assert_eq!(inspected, Ok(made.cut), "index {index}");
                 let straight = (0..kit.k as u16).chain([GUARD; 2]);
                 assert_eq!(order, straight.collect::<Vec<_>>(), "index {index}");
             }
         }
     }
-    assert!(seen.iter().zip(least).all(|(&seen, least)| seen >= least), "{seen:?}");
+    assert!(seen.counts().iter().zip(least.counts()).all(|(&seen, least)| seen >= least), "{seen:?}");
 }
 
 #[test]
 fn first_cut_is_the_least_and_first_on_every_rung() {
     for index in 0..3_000 {
-        let (kit, levels) = levels(index);
+        let kit = sound(&mut Rng::new(4, index));
         let (k, limit) = (kit.k as usize, kit.limit);
-        for level in &levels {
+        for level in &levels(&kit) {
             let rung = naive_copy(&level.graph);
             assert_eq!(
                 rung.play_order(),
@@ -150,35 +194,89 @@ fn first_cut_is_the_least_and_first_on_every_rung() {
     }
 }
 
+/// Σ cost² over the stages.
+fn spread(rung: &naive::Rung, stage: &[usize], k: usize) -> u64 {
+    (0..k).map(|s| naive::stage_cost(rung, stage, s).pow(2)).sum()
+}
+
+/// No backward wire, and every stage filled and within the limit.
+fn good(rung: &naive::Rung, stage: &[usize], k: usize, limit: u32) -> bool {
+    rung.wires.keys().all(|&(u, v)| stage[u] <= stage[v])
+        && (0..k).all(|s| (1..=limit as u64).contains(&naive::stage_cost(rung, stage, s)))
+}
+
+/// The passes on one rung from its first cut, with each move looked at: how many gained and how many evened out.
+/// Each lowers the cut, or the spread at the same cut, so the passes end.
+fn watched_passes(kit: &Small, level: &coarsen::Level, what: &str) -> Option<[u64; 2]> {
+    let (k, limit) = (kit.k as usize, kit.limit);
+    let (mut parts, first_cut) = initial::first_cut(&level.graph, &level.order, k, limit)?;
+    let rung = naive_copy(&level.graph);
+    let table = |parts: &[u16]| parts.iter().map(|&p| p as usize).collect::<Vec<_>>();
+    let mut stage = table(&parts);
+    let mut loads: Vec<u32> = (0..k).map(|s| naive::stage_cost(&rung, &stage, s) as u32).collect();
+    let (mut cut, mut moves) = (first_cut, [0, 0]);
+    refine::refine(&level.graph, &mut parts, &mut loads, limit, |step, parts| {
+        let (to, gain) = (step.to as usize, step.gain);
+        assert_eq!(Some((to, gain)), rung.step(&stage, step.vertex, k, limit as u64), "{what}");
+        let now = table(parts);
+        assert_eq!(now, naive::moved(&stage, step.vertex, to), "{what}");
+        assert!(good(&rung, &now, k, limit), "{what}");
+        let cut_now = naive::widths_between(&rung, &now);
+        assert_eq!(cut as i64 - cut_now as i64, gain, "{what}");
+        assert!(gain > 0 || gain == 0 && spread(&rung, &now, k) < spread(&rung, &stage, k), "{what}");
+        moves[(gain == 0) as usize] += 1;
+        (stage, cut) = (now, cut_now);
+    });
+    assert!((0..stage.len()).all(|g| rung.step(&stage, g, k, limit as u64).is_none()), "{what}");
+    assert!(moves[0] <= first_cut - cut, "{what}");
+    Some(moves)
+}
+
 #[test]
-fn each_gain_is_the_fall_of_the_cut() {
+fn each_move_gains_or_evens_out() {
+    let mut moves = [0, 0];
+    let mut watch = |kit: Small, what: String| {
+        for level in &levels(&kit) {
+            let [gained, evened] = watched_passes(&kit, level, &what).unwrap_or_default();
+            moves = [moves[0] + gained, moves[1] + evened];
+        }
+    };
+    (0..6_000).for_each(|index| watch(sound(&mut Rng::new(4, index)), format!("sound, index {index}")));
+    (0..4_000).for_each(|index| watch(uneven(&mut Rng::new(7, index)), format!("uneven, index {index}")));
+    assert!(moves[0] > 1_000 && moves[1] > 5_000, "{moves:?}");
+}
+
+/// Visits are in number order, so a list of moves to allowed candidates of any gain is more than the split's own.
+#[test]
+fn any_moves_to_allowed_candidates_keep_the_table_good() {
     let mut moves = 0;
-    for index in 0..6_000 {
-        let (kit, levels) = levels(index);
-        for level in &levels {
-            let first = initial::first_cut(&level.graph, &level.order, kit.k as usize, kit.limit);
-            let Some((mut parts, mut cut)) = first else { continue };
+    for index in 0..2_000 {
+        let mut r = Rng::new(8, index);
+        let kit = if index % 2 == 0 { sound(&mut r) } else { uneven(&mut r) };
+        let (k, limit) = (kit.k as usize, kit.limit);
+        for level in &levels(&kit) {
+            let Some((parts, _)) = initial::first_cut(&level.graph, &level.order, k, limit) else { continue };
             let rung = naive_copy(&level.graph);
-            let mut loads: Vec<u32> = vec![0; kit.k as usize];
-            for (v, &p) in parts.iter().enumerate() {
-                loads[p as usize] += level.graph.weights[v];
-            }
-            refine::refine(&level.graph, &mut parts, &mut loads, kit.limit, |step, parts| {
-                let stage: Vec<usize> = parts.iter().map(|&p| p as usize).collect();
-                let now = naive::widths_between(&rung, &stage);
-                assert!(step.gain > 0, "index {index}");
-                assert_eq!(cut - now, step.gain as u64, "index {index}");
-                assert!(rung.wires.keys().all(|&(u, v)| stage[u] <= stage[v]), "index {index}");
-                for s in 0..kit.k as usize {
-                    let cost = naive::stage_cost(&rung, &stage, s);
-                    assert!((1..=kit.limit as u64).contains(&cost), "index {index}");
+            let mut stage: Vec<usize> = parts.iter().map(|&p| p as usize).collect();
+            for _ in 0..8 {
+                let g = r.below(stage.len());
+                let mut open = rung.candidates(&stage, g, k);
+                open.retain(|&to| rung.allowed(&stage, g, to, limit as u64));
+                if open.is_empty() {
+                    continue;
                 }
-                cut = now;
+                let to = r.pick(&open);
+                let now = naive::moved(&stage, g, to);
+                let fall =
+                    naive::widths_between(&rung, &stage) as i64 - naive::widths_between(&rung, &now) as i64;
+                assert_eq!(fall, rung.gain(&stage, g, to), "index {index}");
+                assert!(good(&rung, &now, k, limit), "index {index}");
+                stage = now;
                 moves += 1;
-            });
+            }
         }
     }
-    assert!(moves > 500, "{moves}");
+    assert!(moves > 2_000, "{moves}");
 }
 
 /// Pairs picked at random rather than by the paper's visit: the groups never form a loop.
@@ -301,15 +399,13 @@ fn disturb(r: &mut Rng, kit: &mut Small) {
     }
 }
 
-fn levels(index: u64) -> (Small, Vec<coarsen::Level>) {
-    let kit = sound(&mut Rng::new(4, index));
+fn levels(kit: &Small) -> Vec<coarsen::Level> {
     let edge =
         |e: usize| Edge { from: kit.starts[e] as u32, to: kit.ends[e] as u32, width: kit.widths[e] as u32 };
     let edges: Vec<Edge> = (0..kit.starts.len()).map(edge).collect();
     let graph = Graph::new(kit.costs.iter().map(|&c| c as u32).collect(), &edges);
     let order = graph.topological_order();
-    let levels = coarsen::hierarchy(graph, order, kit.k as usize, kit.limit);
-    (kit, levels)
+    coarsen::hierarchy(graph, order, kit.k as usize, kit.limit)
 }
 
 fn naive_copy(graph: &Graph) -> naive::Rung {

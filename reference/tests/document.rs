@@ -113,12 +113,24 @@ fn case_11() {
     assert_eq!(run(&[1; 512], 1, 512, &wires).answer, refused(3, 0));
 }
 
-/// Block 2 may go back or forward, each for a gain of 1.
+/// Block 2 may go to stage 0 or 2, each for a gain of 1. Stages of cost 2, 2 and 1 are as even as they can be.
 #[test]
-fn equal_gains_go_back() {
+fn equal_gains_go_to_the_lowest_stage() {
     let made = run(&[1; 5], 3, 3, &[(0, 2, 1), (2, 4, 1), (1, 3, 5)]);
     assert_eq!(made.answer, Ok(Split { cut: 1, rounds: 0, rung: 0, moves: 1 }));
     assert_eq!(made.stages, [0, 1, 0, 1, 2]);
+}
+
+/// Request a of document 02: moves that even out stages are made and are not counted.
+#[test]
+fn stages_are_evened_out() {
+    let evened = Ok(Split { cut: 0, rounds: 0, rung: 0, moves: 0 });
+    // first 0,1,2,2: block 3 leaves stage 2 for the lowest stage by which the larger cost falls
+    let made = run(&[2, 1, 2, 1], 3, 3, &[]);
+    assert_eq!((made.answer, &made.stages[..]), (evened, &[0, 1, 2, 1][..]));
+    // first 0,1,1: block 1 in the first pass, block 0 in the second
+    let made = run(&[1, 3, 2], 2, 5, &[]);
+    assert_eq!((made.answer, &made.stages[..]), (evened, &[1, 0, 1][..]));
 }
 
 #[test]

@@ -219,6 +219,32 @@ static void sound(void)
     EXPECT(!memcmp(ladder + n, groups, sizeof groups) && guarded(ladder, 2 * n, HATCH_ROWS * HATCH_BLOCKS + PAD));
 }
 
+/* request a of document 02: stages are evened out, by moves that are not counted */
+static void evened(void)
+{
+    const uint16_t stages[] = {1, 0, 1};
+    plain(3, 2, 5);
+    costs[1] = 3, costs[2] = 2;
+    fresh();
+    EXPECT(split_with(0, HATCH_BLOCKS, HATCH_ROWS * HATCH_BLOCKS) == 0);
+    EXPECT(answer[0] == 0 && answer[1] == 0 && answer[2] == 0 && answer[3] == 0 && answer_guarded(4));
+    EXPECT(!memcmp(table, stages, sizeof stages) && guarded(table, n, HATCH_BLOCKS + PAD));
+}
+
+/* 512 blocks without wires under a limit that never matters: the first cut is 15 single blocks and all the rest */
+static void evened_largest(void)
+{
+    size_t sums[HATCH_STAGES] = {0};
+    plain(512, 16, 512);
+    fresh();
+    EXPECT(split_with(0, n, 9 * n) == 0);
+    EXPECT(answer[0] == 0 && answer[3] == 0 && guarded(table, n, HATCH_BLOCKS + PAD));
+    for (size_t i = 0; i < n; i++)
+        sums[table[i]]++;
+    for (size_t s = 0; s < k; s++)
+        EXPECT(sums[s] == 32);
+}
+
 /* 512 blocks, 1,024 wires, 16 stages: the largest kit, and the table past it */
 static void largest(void)
 {
@@ -284,6 +310,8 @@ int main(void)
     uncut();
     tables();
     sound();
+    evened();
+    evened_largest();
     largest();
 #ifndef NO_READ
     texts();

@@ -6,3 +6,4 @@ pub mod Loops
 pub mod Slices
 pub mod Counts
 pub mod Parts
+pub mod Best

@@ -1,6 +1,6 @@
 -- Bounded folds: sums, searches and lists over the numbers below n, and what a loop has written of a slice.
 use Prim.Native.Nat.{ℕ, zero, suc, _+_, _<_, _≤_, max}
-use mathlib.Core.Bool.{Bool, true, false, not, _&&_}
+use mathlib.Core.Bool.{Bool, true, false, not, _&&_, _||_}
 use mathlib.Core.List.{List, [], _∷_, _++_}
 use lib.Dec.{ltb, eqb}
 use lib.ListN.{getD, length, take, drop, replicate}
@@ -56,6 +56,10 @@ listTo (suc n) f = listTo n f ++ (f n ∷ [])
 unfoldable pub turns : {S : Type 0} → ℕ → (ℕ → S → S) → S → S
 turns zero f s = s
 turns (suc n) f s = f n (turns n f s)
+
+-- the lowest of the largest, by `less`, of the numbers below n that have p, or s, which has it not
+unfoldable pub bestTo : ℕ → (ℕ → Bool) → (ℕ → ℕ → Bool) → ℕ → ℕ
+bestTo n p less s = turns n (λ t b. pick (p t && (eqb b s || less b t)) t b) s
 
 -- n times 0
 unfoldable pub zeros : ℕ → List ℕ

@@ -61,7 +61,7 @@ fn tell_read(told: Reading, answer: &mut [usize; 4]) -> u32
     }
 }
 
-// Document 01, the split. Answers the cut, the rounds kept, the rung that was cut and the moves; or the place.
+// Document 01, the split. Answers the cut, the rounds kept, the rung that was cut and the moves that lowered the cut; or the place.
 #[no_mangle]
 pub extern "C" fn hatch_split(
     costs: &[u16],

@@ -1,20 +1,21 @@
 -- Walks along a cluster's edges that see the parts at the far ends.
-use Prim.Native.Nat.{ℕ, _+_, _≤_, _<_, min, max}
+use Prim.Native.Nat.{ℕ, zero, suc, _+_, _≤_, _<_, min, max}
 use mathlib.Core.Path.{_≡_, refl, sym, _∙_}
 use mathlib.Core.Bool.{true, _&&_}
 use mathlib.Core.List.{List}
+use native.Mathlib.Nat.{not-suc-le-zero}
 use native.Mathlib.Omega.{arith}
 use lib.Dec.{eqb}
 use lib.ListN.{length, getD, set, length-set, replicate, getD-replicate}
-use borrow.Author.Tests.{eq-eqb, ne-eqb}
+use borrow.Author.Tests.{eqb-true, eq-eqb, ne-eqb}
 use Rattle.folds.specs.Fold.{when, sumTo, turns, mostWidth}
-use Rattle.folds.proofs.Cases.{when-le}
+use Rattle.folds.proofs.Cases.{by, either, last-or, when-le}
 use Rattle.folds.proofs.Lists.{set-add}
-use Rattle.folds.proofs.Sums.{sumTo-step, sumTo-less, sumTo-mono}
+use Rattle.folds.proofs.Sums.{sumTo-step, sumTo-less, sumTo-mono, sumTo-none}
 use Rattle.graph.specs.Graph.{via}
 use Rattle.graph.specs.Links.{Linked, Ended}
 use Rattle.graph.proofs.Links.{Only, Acts, On, sum-on, sum-next, turns-on, turns-next}
-use Rattle.neighbours.specs.Visit.{Listed, lowerBy, raiseBy, widthTo, pullTo, SumsRoom, Added, Pulled}
+use Rattle.neighbours.specs.Visit.{Listed, lowerBy, raiseBy, lowNext, highBefore, widthTo, pullTo, SumsRoom, Added, Pulled}
 
 -- the lists, the other way round
 pub ended-back : {froms tos : List ℕ} → Ended froms tos → Ended tos froms
@@ -105,6 +106,36 @@ pub room-next : (near far widths table : List ℕ) {h m : ℕ} {now : List ℕ} 
     → Added near far widths table h m (replicate 16 0) now → SumsRoom now
 room-next near far widths table {h} {m} n A =
     record { long = A .long; room = λ u lu. omega (arith, A .is u lu, getD-replicate {A = ℕ} 16 u 0 0 lu, width-le near far widths table h u m) }
+
+-- the parts at the far ends of the edges whose near end is h: none below the lowest, none above the highest
+module _ (near far table : List ℕ) (h : ℕ) where
+  lower-le : (k m j : ℕ) → j < m → getD near j 0 ≡ h → turns m (lowerBy near far table h) k ≤ via table far j
+  unfolding turns lowerBy
+  lower-le k zero j l e = absurd (not-suc-le-zero l)
+  lower-le k (suc m) j l e =
+      either (last-or l) (λ q. rw (← q, eq-eqb (getD near j 0) h e) (omega arith))
+      (λ g. let r = lower-le k m j g e in by (eqb (getD near m 0) h) (λ t. rw t (omega arith)) (λ t. rw t r))
+
+  raise-le : (m j : ℕ) → j < m → getD near j 0 ≡ h → via table far j < turns m (raiseBy near far table h) 0
+  unfolding turns raiseBy
+  raise-le zero j l e = absurd (not-suc-le-zero l)
+  raise-le (suc m) j l e =
+      either (last-or l) (λ q. rw (← q, eq-eqb (getD near j 0) h e) (omega arith))
+      (λ g. let r = raise-le m j g e in by (eqb (getD near m 0) h) (λ t. rw t (omega arith)) (λ t. rw t r))
+
+  -- no width to a part that none of these edges leads to
+  width-none : (widths : List ℕ) (m u : ℕ) → ((j : ℕ) → j < m → getD near j 0 ≡ h → via table far j ≡ u → ⊥) → sumTo m (widthTo near far widths table h u) ≡ 0
+  unfolding widthTo
+  width-none widths m u n =
+      sumTo-none m _
+      (λ j l. by (eqb (getD near j 0) h) (λ e. rw (e, ne-eqb (via table far j) u (n j l (eqb-true (getD near j 0) h e)))) (λ e. rw e))
+
+-- no edge of h leads to a part between those of its predecessors and those of its successors
+pub pull-between : (froms tos widths table : List ℕ) (h k u : ℕ) → highBefore froms tos table h ≤ u → u < lowNext froms tos table h k → pullTo froms tos widths table h u ≡ 0
+unfolding pullTo lowNext highBefore
+pull-between froms tos widths table h k u a b =
+    let x = width-none froms tos table h widths (length froms) u (λ j l e q. omega (arith, lower-le froms tos table h k (length froms) j l e)) in
+    let y = width-none tos froms table h widths (length froms) u (λ j l e q. omega (arith, raise-le tos froms table h (length froms) j l e)) in omega (arith, x, y)
 
 -- the two ways together
 pub both-ways : (froms tos widths table : List ℕ) {h : ℕ} {now now′ : List ℕ} → length tos ≡ length froms

@@ -1,6 +1,6 @@
 -- What is known of the clusters from one visit to the next: for each the lowest part of a successor, one more than the highest of a
 -- predecessor, and a mark. 0: no candidate is open to it. 1: the two numbers are right. 2: an end of its edges has moved since.
-use Prim.Native.Nat.{ℕ, _≤_, _<_}
+use Prim.Native.Nat.{ℕ, _+_, _≤_, _<_}
 use mathlib.Core.Path.{_≡_}
 use mathlib.Core.Bool.{Bool, false, _&&_, _||_}
 use mathlib.Core.List.{List}
@@ -9,9 +9,9 @@ use lib.ListN.{length, getD}
 use Rattle.folds.specs.Fold.{when, turns}
 use Rattle.neighbours.specs.Visit.{lowerBy, raiseBy, lowNext, highBefore}
 
--- a candidate is open to a cluster of part own: low, forward, or the part below high, back
+-- a candidate is open to a cluster of part own: from the part below high to low there is another, after own or before it
 unfoldable pub openTo : ℕ → ℕ → ℕ → ℕ → Bool
-openTo own low high k = (ltb own low && ltb low k) || (ltb 0 high && leb high own)
+openTo own low high k = (ltb own low && ltb (own + 1) k) || (ltb 0 own && leb high own)
 
 -- a mark other than 2 says that the two numbers are right, and 0 that by them nothing is open
 pub record Known (froms tos table : List ℕ) (k : ℕ) (low high marks : List ℕ) : Type 0 where

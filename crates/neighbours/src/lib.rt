@@ -60,10 +60,10 @@ fn sweep(
 fn mark_of(own: u16, low: u16, high: u16, k: u16) -> u8
     ensures { λ r. ⌜ r ≡ when (openTo own low high k) 1 ⌝ }
 {
-    if own < low && low < k {
+    if own < low && own as u32 + 1 < k as u32 {
         return 1;
     }
-    if 0 < high && high <= own {
+    if 0 < own && high <= own {
         return 1;
     }
     0

@@ -21,6 +21,10 @@ sizeAllowed S from cost size bound = ltb cost (getD (S .sums) from 0) && leb siz
 abbrev pub sumsAllow : PartSums → ℕ → ℕ → ℕ → ℕ → Bool
 sumsAllow S from to cost bound = sizeAllowed S from cost (getD (S .sums) to 0 + cost) bound
 
+-- by a cost that goes from one part to another the larger of the two sums falls
+unfoldable pub sumsEven : PartSums → ℕ → ℕ → ℕ → Bool
+sumsEven S from to cost = ltb (getD (S .sums) to 0 + cost) (getD (S .sums) from 0)
+
 -- a cost that can go from one part to another
 pub record Shifts (S : PartSums) (from to cost : ℕ) : Type 0 where
   pub from-in : from < 16

@@ -4,7 +4,7 @@ ghost use Prim.Native.Nat.{_<_};
 ghost use lib.ListN.{length};
 ghost use Rattle.folds.specs.Fold.{Read};
 ghost use Rattle.graph.specs.Totals.{Keyed};
-ghost use Rattle.part_sums.specs.Sums.{SumsOf, sizeAllowed, sumsAllow, Shifts, Shifted};
+ghost use Rattle.part_sums.specs.Sums.{SumsOf, sizeAllowed, sumsAllow, sumsEven, Shifts, Shifted};
 
 // The cost of each of up to 16 parts, and how many parts there are.
 pub struct PartSums {
@@ -52,6 +52,16 @@ impl PartSums {
     {
         let size = sum_at(&self.sums, to) + cost as u64;
         self.allows(from, cost, size, bound)
+    }
+
+    // Whether the larger of two parts' sums falls by a cost that goes from one to the other.
+    pub fn evens(self, from: usize, to: usize, cost: u32) -> bool
+        requires { ⌜ (from < 16) × (to < 16) ⌝ }
+        ensures { λ r. ⌜ r ≡ sumsEven self from to cost ⌝ }
+    {
+        let size = sum_at(&self.sums, to) + cost as u64;
+        let old = sum_at(&self.sums, from);
+        size < old
     }
 
     // The record after a cost has gone from one part to another.

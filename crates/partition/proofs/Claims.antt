@@ -96,22 +96,22 @@ module _ (G : Graph) (k bound : ℕ) (valid : Valid G k bound) where
   -- MOVES: from the first cut, for every list of moves to allowed candidates down the rungs, whoever picked them: at the first cut and after each
   -- entry no edge goes from a later part to an earlier one and no part is empty or over the bound, and with each entry the cut falls by its gain
   pub split-moves : {rung : ℕ} {first : List ℕ} {tally : Tally} → resultOf G k bound ≡ parted rung first tally
-      → (es : List Entry) → AllAllowed G bound (rowOf G k bound) es (stateOf rung first)
+      → (es : List Entry) → AllAllowed G k bound (rowOf G k bound) es (stateOf rung first)
       → ((i : ℕ) → GoodAt G k bound (rowOf G k bound) (keptOf G k bound) (after (rowOf G k bound) (take i es) (stateOf rung first)))
       × ((i : ℕ) → i < length es → pos (cutAt G (after (rowOf G k bound) (take i es) (stateOf rung first)))
       ≡ pos (cutAt G (after (rowOf G k bound) (take (suc i) es) (stateOf rung first))) +ℤ gain G (rowOf G k bound) (getD es i down) (after (rowOf G k bound) (take i es) (stateOf rung first)))
   split-moves e = moves-law G (sound .proper) k bound (rowOf G k bound) (keptOf G k bound) kept (stateOf _ _) (first-good e)
 
-  -- the split's own moves are such a list, each of gain above 0, with as many steps down as the rung that was cut; they lead to the table answered
-  -- on rung 0, number the moves answered, and the first cut is the cut answered plus their gains
+  -- the split's own moves are such a list, each of gain above 0 or of gain 0 that evens, with as many steps down as the rung that was cut; they lead to the
+  -- table answered on rung 0, those of gain above 0 number the moves answered, and the first cut is the cut answered plus the gains
   pub split-own-moves : {rung : ℕ} {first : List ℕ} {tally : Tally} → resultOf G k bound ≡ parted rung first tally
-      → Took G bound (rowOf G k bound) (ownMoves G k bound (rowOf G k bound) rung first) (stateOf rung first) (stateOf 0 (tally .parts)) (tally .moves) rung
+      → Took G k bound (rowOf G k bound) (ownMoves G k bound (rowOf G k bound) rung first) (stateOf rung first) (stateOf 0 (tally .parts)) (tally .moves) rung
       × (pos (cutOf G first) ≡ pos (cutOf G (tally .parts)) +ℤ gains G (rowOf G k bound) (ownMoves G k bound (rowOf G k bound) rung first) (stateOf rung first))
   split-own-moves {rung} {first} e =
       let (c, _, t) = first-found e in
       rw t (own-moves G (sound .proper) k bound (rowOf G k bound) (keptOf G k bound) kept rung first (first-good e))
 
-  -- the moves answered are never more than the first cut less the cut answered
+  -- the moves answered, those of gain above 0, are never more than the first cut less the cut answered
   pub split-few-moves : {rung : ℕ} {first : List ℕ} {tally : Tally} → resultOf G k bound ≡ parted rung first tally → tally .moves + cutOf G (tally .parts) ≤ cutOf G first
   split-few-moves {rung} {first} e =
       let (c, _, t) = first-found e in

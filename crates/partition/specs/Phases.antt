@@ -15,7 +15,7 @@ pub data Result : Type 0 where
 unfoldable pub firstOf : Graph → ℕ → ℕ → Chosen
 firstOf G k bound = chosenOf G k bound (rowOf G k bound) (keptOf G k bound)
 
--- document 01, "Moves": from the first cut down the rungs
+-- document 01, "Moves", and document 02, a: from the first cut down the rungs
 abbrev pub refinedFrom : Graph → ℕ → ℕ → Chosen → Result
 refinedFrom G k bound uncut = nothing
 refinedFrom G k bound (found rung first cut) = parted rung first (refined G k bound (rowOf G k bound) rung first)

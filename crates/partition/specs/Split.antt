@@ -17,7 +17,7 @@ use Rattle.partition.specs.declared.Partitioned.the-variants.{Parted, Fa
 use Rattle.refinement.specs.Pass.{Tally}
 use Rattle.partition.specs.declared.Summary.{Summary}
 
--- document 01's values of a split: the cut, the rounds kept, the rung that was cut and the number of moves
+-- document 01's values of a split: the cut, the rounds kept, the rung that was cut and the number of moves (of gain above 0: document 02, a)
 abbrev pub figures : Summary → List ℕ
 figures s = s .cut ∷ s .rounds ∷ s .rung ∷ s .moves ∷ []
 

@@ -17,7 +17,7 @@ use initial::Initial;
 use validity::Cause;
 use validity::Verdict;
 
-// What a split tells: the cut, the rounds kept, the rung that was cut and the moves.
+// What a split tells: the cut, the rounds kept, the rung that was cut and the moves that lowered the cut.
 pub struct Summary {
     pub cut: u32,
     pub rounds: usize,

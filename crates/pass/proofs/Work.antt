@@ -1,126 +1,169 @@
 -- The choice of a part and the visit of a cluster, from what the code's branches say.
-use Prim.Native.Nat.{ℕ, _+_, _-_, _≤_, _<_, _^_}
+use Prim.Native.Nat.{ℕ, _+_, _-_, _≤_, _<_, _^_, min}
 use mathlib.Core.Path.{_≡_, refl, sym, ap, _∙_}
-use mathlib.Core.Bool.{Bool, true, false, _&&_}
+use mathlib.Core.Bool.{Bool, true, false, not, _&&_, _||_}
 use mathlib.Core.List.{List}
+use mathlib.Core.Logic.{_⊎_, inl, inr}
 use native.Mathlib.Omega.{arith}
-use lib.Dec.{ltb, leb}
+use lib.Dec.{eqb, ltb, leb}
 use lib.ListN.{getD, set, length-set}
 use lib.Seq.{getD-set-same, getD-set-other}
-use borrow.Author.Tests.{lt-ltb, le-ltb, le-leb, lt-leb, ltb-true, leb-true, eq-eqb, ne-eqb}
-use Rattle.folds.specs.Fold.{pick, turns, Read}
-use Rattle.folds.proofs.Cases.{by, both, either, eq-or-ne, and-false, no-bool}
+use borrow.Author.Tests.{lt-ltb, le-leb, ltb-true, ltb-false, leb-true, eqb-true, eqb-false, eq-eqb, ne-eqb}
+use Rattle.folds.specs.Fold.{pick, when, turns, bestTo, Read}
+use Rattle.folds.proofs.Cases.{by, both, both-i, one-of, or-l, or-r, either, eq-or-ne, and-false, and-true, not-yes, no-bool}
+use Rattle.folds.proofs.Best.{best-none, best-turn, best-skip, best-one, best-below, best-alike}
 use Rattle.folds.proofs.Loops.{turns-zero, turns-turn}
 use Rattle.neighbours.specs.Visit.{Placed, pullTo, Pulled}
 use Rattle.neighbours.specs.Known.{openTo, Known, Fresh}
+use Rattle.neighbours.proofs.Laws.{pull-between}
 use Rattle.part_sums.specs.declared.PartSums.{PartSums}
 use Rattle.pass.specs.declared.Target.{Target}
-use Rattle.part_sums.specs.Sums.{sumsAllow, Shifts, shifted}
+use Rattle.part_sums.specs.Sums.{sumsAllow, sumsEven, Shifts, shifted}
 use Rattle.part_sums.proofs.Sums.{allowed-shifts}
-use Rattle.pass.specs.Work.{betterOf, backOf, choiceOf, PickedPart, Aims, Idle, Work, begun, choiceAt, gainAt, movedBy, worked, Paid, Goal, WorkDone}
+use Rattle.pass.specs.Work.{gainsBy, openOf, choiceOf, beatsOf, betterOf, Flanks, Barred, Begins, Spans, PickedPart, Aims, Work, begun, choiceAt, gainAt, movedBy, worked, Paid, Goal, WorkDone}
 
-module _ (f : ℕ → ℕ) (S : PartSums) (own cost bound : ℕ) where
-  pub back-none : (high : ℕ) → high ≡ 0 → own ≡ backOf f S own cost bound high
-  unfolding backOf betterOf
-  back-none high e = rw e
+-- a chain of tests in the code's order
+reorder : (a b g l : Bool) → (a && (b && (g && l))) ≡ (((a && true) && (l && g)) && b)
+reorder false b g l = refl
+reorder true b false true = and-false b
+reorder true b false false = and-false b
+reorder true b true true = and-true b
+reorder true b true false = and-false b
 
-  pub back-above : (high : ℕ) → own < high → own ≡ backOf f S own cost bound high
-  unfolding backOf betterOf
-  back-above high l = rw (lt-ltb 0 high (omega arith), lt-leb high own l)
+module _ (f : ℕ → ℕ) (S : PartSums) (own cost bound low high : ℕ) where
+  -- what an open part is
+  open-e : (t : ℕ) → openOf f S own cost bound low high t ≡ true
+      → (own ≡ t → ⊥) × (high ≤ t + 1) × (t ≤ low) × (sumsAllow S own t cost bound ≡ true) × (gainsBy f S own cost t ≡ true)
+  unfolding openOf
+  open-e t e =
+      let (c, g) = both (not (eqb own t) && (leb high (t + 1) && leb t low)) _ e in
+      let (n, r) = both (not (eqb own t)) _ c in
+      let (h, l) = both (leb high (t + 1)) _ r in
+      let (a, b) = both (sumsAllow S own t cost bound) _ g in
+      (eqb-false own t (not-yes _ n), leb-true high (t + 1) h, leb-true t low l, a, b)
 
-  pub back-tried : (high r : ℕ) → (high ≡ 0 → ⊥) → high ≤ own → r ≡ betterOf f S own cost bound true (high - 1) own → r ≡ backOf f S own cost bound high
-  unfolding backOf
-  back-tried high r n l e = rw (lt-ltb 0 high (omega arith), le-leb high own l) e
+  closed-i : (t : ℕ) → (openOf f S own cost bound low high t ≡ true → ⊥) → openOf f S own cost bound low high t ≡ false
+  closed-i t n = by (openOf f S own cost bound low high t) (λ e. absurd (n e)) (λ e. e)
 
-  pub choice-under : (low high b : ℕ) → low ≤ own → b ≡ backOf f S own cost bound high → b ≡ choiceOf f S own cost bound low high
-  unfolding choiceOf betterOf
-  choice-under low high b l e = rw (le-ltb own low l) e
+  gains-e : (t : ℕ) → gainsBy f S own cost t ≡ true → (f own < f t) ⊎ ((f t ≡ f own) × (sumsEven S own t cost ≡ true))
+  unfolding gainsBy
+  gains-e t e =
+      either (one-of (ltb (f own) (f t)) _ e) (λ l. inl (ltb-true (f own) (f t) l))
+      (λ q. let (x, y) = both (eqb (f t) (f own)) _ q in inr (eqb-true (f t) (f own) x, y))
 
-  pub choice-none : (low high b : ℕ) → own < low → S .count ≤ low → b ≡ backOf f S own cost bound high → b ≡ choiceOf f S own cost bound low high
-  unfolding choiceOf betterOf
-  choice-none low high b l g e = rw (lt-ltb own low l, le-ltb low (S .count) g) e
+  -- the search among the parts below n
+  abbrev pub choiceTo : ℕ → ℕ
+  choiceTo n = bestTo n (openOf f S own cost bound low high) (λ a b. ltb (f a) (f b)) own
 
-  pub choice-tried : (low high b r : ℕ) → own < low → low < S .count → b ≡ backOf f S own cost bound high → r ≡ betterOf f S own cost bound true low b
-      → r ≡ choiceOf f S own cost bound low high
+  -- what is chosen in place of the cluster's own part is open
+  choice-open : (choiceOf f S own cost bound low high ≡ own → ⊥) → openOf f S own cost bound low high (choiceOf f S own cost bound low high) ≡ true
   unfolding choiceOf
-  choice-tried low high b r l g e h = rw (lt-ltb own low l, lt-ltb low (S .count) g, ← e) h
+  choice-open n = either (best-one _ _ own (S .count)) (λ e. absurd (n e)) (λ (_, e). e)
 
-  -- what is chosen in place of the cluster's own part is allowed
-  better-allowed : (candidate : Bool) (t best : ℕ) → ((best ≡ own → ⊥) → sumsAllow S own best cost bound ≡ true)
-      → (betterOf f S own cost bound candidate t best ≡ own → ⊥) → sumsAllow S own (betterOf f S own cost bound candidate t best) cost bound ≡ true
-  unfolding betterOf
-  better-allowed candidate t best old n =
-      by (candidate && (ltb (f best) (f t) && sumsAllow S own t cost bound)) (λ e. rw e (both (ltb (f best) (f t)) _ (both candidate _ e .1) .1))
-      (λ e. let m = rw e at n in rw e (old m))
-
-  choice-allowed : (low high : ℕ) → (choiceOf f S own cost bound low high ≡ own → ⊥) → sumsAllow S own (choiceOf f S own cost bound low high) cost bound ≡ true
-  unfolding choiceOf backOf
-  choice-allowed low high n = better-allowed _ low _ (λ m. better-allowed _ (high - 1) own (λ z. absurd (z refl)) m) n
+  choice-allowed : (choiceOf f S own cost bound low high ≡ own → ⊥) → sumsAllow S own (choiceOf f S own cost bound low high) cost bound ≡ true
+  choice-allowed n = open-e _ (choice-open n) .3
 
   -- what is chosen is no less tied to the cluster than its own part
-  better-gains : (candidate : Bool) (t best : ℕ) → f own ≤ f best → f own ≤ f (betterOf f S own cost bound candidate t best)
-  unfolding betterOf
-  better-gains candidate t best l =
-      by (candidate && (ltb (f best) (f t) && sumsAllow S own t cost bound))
-      (λ e. let m = ltb-true (f best) (f t) (both (ltb (f best) (f t)) _ (both candidate _ e .1) .0) in rw e (omega arith)) (λ e. rw e l)
+  pub choice-gains : {r : ℕ} → PickedPart f S own cost bound low high r → f own ≤ f r
+  choice-gains C =
+      rw (C .is)
+      (either (eq-or-ne (choiceOf f S own cost bound low high) own) (λ e. rw e (omega arith))
+      (λ n. either (gains-e _ (open-e _ (choice-open n) .4)) (λ l. omega arith) (λ (e, _). omega arith)))
 
-  pub choice-gains : {low high r : ℕ} → PickedPart f S own cost bound low high r → f own ≤ f r
-  unfolding choiceOf backOf
-  choice-gains {low} {high} C = rw (C .is) (better-gains _ low _ (better-gains _ (high - 1) own (omega arith)))
+  -- a cluster to which no candidate is open stays, whatever its widths are
+  closed-idle : openTo own low high (S .count) ≡ false → choiceOf f S own cost bound low high ≡ own
+  unfolding choiceOf openTo
+  closed-idle e =
+      sym
+      (best-none _ _ own (S .count)
+      (λ u l. closed-i u (λ o. let (n, h, w, _, _) = open-e u o in
+      by (ltb own u)
+      (λ t. let g = ltb-true own u t in
+      no-bool (sym e ∙ or-l (ltb own low && ltb (own + 1) (S .count)) _ (both-i (ltb own low) _ (lt-ltb own low (omega arith)) (lt-ltb (own + 1) (S .count) (omega arith)))))
+      (λ t. let g = ltb-false own u t in
+      no-bool (sym e ∙ or-r (ltb own low && ltb (own + 1) (S .count)) _ (both-i (ltb 0 own) _ (lt-ltb 0 own (omega arith)) (le-leb high own (omega arith))))))))
 
-  -- where no candidate is allowed
-  better-barred : (candidate : Bool) (t best : ℕ) → sumsAllow S own t cost bound ≡ false → betterOf f S own cost bound candidate t best ≡ best
-  unfolding betterOf
-  better-barred candidate t best e = rw (e, and-false (ltb (f best) (f t)), and-false candidate)
+  -- the search from start on and below end
+  module _ {start end : ℕ} (R : Spans f S own cost bound low high start end) where
+    past-closed : (u : ℕ) → end ≤ u → u < S .count → openOf f S own cost bound low high u ≡ false
+    past-closed u g l = closed-i u (λ o. let (_, _, w, _, _) = open-e u o in omega (arith, R .end-is))
 
-  pub back-shut : (high : ℕ) → sumsAllow S own (high - 1) cost bound ≡ false → backOf f S own cost bound high ≡ own
-  unfolding backOf
-  back-shut high e = better-barred _ (high - 1) own e
+    pub choice-start : own ≡ choiceTo start
+    choice-start = best-none _ _ own start (R .none)
 
--- a cluster that stays whatever its widths are, from what the branches say
-module _ (S : PartSums) (own cost bound : ℕ) where
-  pub closed-idle : (low high : ℕ) → openTo own low high (S .count) ≡ false → Idle S own cost bound low high
-  unfolding openTo choiceOf backOf betterOf
-  closed-idle low high e f =
-      by (ltb own low && ltb low (S .count)) (λ t. absurd (no-bool (sym (rw t at e)))) (λ t. let y = rw t at e in rw (t, y))
+    pub choice-turn : {t b r : ℕ} → start ≤ t → t < end → b ≡ choiceTo t → r ≡ betterOf f S own cost bound t b → r ≡ choiceTo (t + 1)
+    unfolding betterOf beatsOf openOf
+    choice-turn {t} {b} g l e q =
+        best-turn _ _ own t e
+        (q ∙ rw (le-leb high (t + 1) (omega (arith, R .from)), le-leb t low (omega (arith, R .end-is)))
+        (ap (λ (x : Bool). pick x t b) (reorder (not (eqb own t)) (eqb b own || ltb (f b) (f t)) (gainsBy f S own cost t) (sumsAllow S own t cost bound))))
 
-  module _ (low high : ℕ) where
-    pub idle-under : low ≤ own → ((f : ℕ → ℕ) → backOf f S own cost bound high ≡ own) → Idle S own cost bound low high
-    idle-under l b f = sym (choice-under f S own cost bound low high own l (sym (b f)))
-
-    pub idle-none : own < low → S .count ≤ low → ((f : ℕ → ℕ) → backOf f S own cost bound high ≡ own) → Idle S own cost bound low high
-    idle-none l g b f = sym (choice-none f S own cost bound low high own l g (sym (b f)))
-
-    pub idle-shut : sumsAllow S own low cost bound ≡ false → ((f : ℕ → ℕ) → backOf f S own cost bound high ≡ own) → Idle S own cost bound low high
+    pub choice-end : {t b : ℕ} → t ≤ end → end ≤ t → b ≡ choiceTo t → b ≡ choiceOf f S own cost bound low high
     unfolding choiceOf
-    idle-shut e b f = better-barred f S own cost bound _ low _ e ∙ b f
+    choice-end {t} l g e = e ∙ sym (best-skip _ _ own t (S .count) (omega (arith, R .end-is)) (λ u a. past-closed u (omega arith)))
+
+    -- none from start on is a candidate
+    pub choice-none : end ≤ start → own ≡ choiceOf f S own cost bound low high
+    unfolding choiceOf
+    choice-none l =
+        best-none _ _ own (S .count)
+        (λ u g. by (ltb u start) (λ t. R .none u (ltb-true u start t)) (λ t. let m = ltb-false u start t in past-closed u (omega arith) g))
+
+-- a part that is not open whatever the widths are, from what the branches say
+module _ (S : PartSums) (own cost bound low high t : ℕ) where
+  pub barred-own : own ≡ t → Barred S own cost bound low high t
+  barred-own e f F = closed-i f S own cost bound low high t (λ o. open-e f S own cost bound low high t o .0 e)
+
+  pub barred-shut : sumsAllow S own t cost bound ≡ false → Barred S own cost bound low high t
+  barred-shut e f F = closed-i f S own cost bound low high t (λ o. no-bool (sym e ∙ open-e f S own cost bound low high t o .3))
+
+  pub barred-uneven : (t ≡ low → ⊥) → (t + 1 ≡ high → ⊥) → sumsEven S own t cost ≡ false → Barred S own cost bound low high t
+  barred-uneven n m e f F =
+      closed-i f S own cost bound low high t
+      (λ o. let (_, h, l, _, g) = open-e f S own cost bound low high t o in
+      either (gains-e f S own cost bound low high t g) (λ w. omega (arith, F t (omega arith) (omega arith))) (λ (_, y). no-bool (sym e ∙ y)))
+
+  barred-before : t + 1 < high → Barred S own cost bound low high t
+  barred-before l f F = closed-i f S own cost bound low high t (λ o. omega (arith, open-e f S own cost bound low high t o .1))
+
+module _ {S : PartSums} {own cost bound low high : ℕ} where
+  pub begins-first : {r : ℕ} → r ≡ high - 1 → Begins S own cost bound low high r
+  begins-first e = record { from = omega arith; none = λ u l. barred-before S own cost bound low high u (omega arith) }
+
+  pub begins-turn : {r : ℕ} → Barred S own cost bound low high r → Begins S own cost bound low high r → Begins S own cost bound low high (r + 1)
+  begins-turn {r} b B =
+      record { from = omega (arith, B .from); none = λ u l. either (eq-or-ne u r) (λ e. rw e b) (λ n. B .none u (omega arith)) }
+
+  pub begins-spans : {f : ℕ → ℕ} {start end : ℕ} → Flanks f low high → Begins S own cost bound low high start → end ≡ min (low + 1) (S .count)
+      → Spans f S own cost bound low high start end
+  begins-spans {f} F B e = record { from = B .from; none = λ u l. B .none u l f F; end-is = e }
 
 -- the choice depends on the widths to the 16 parts alone
 module _ (f g : ℕ → ℕ) (S : PartSums) (own cost bound : ℕ) (same : (u : ℕ) → u < 16 → f u ≡ g u) where
-  better-ext : (candidate : Bool) (t best : ℕ) → (candidate ≡ true → t < 16) → best < 16
-      → (betterOf f S own cost bound candidate t best ≡ betterOf g S own cost bound candidate t best) × (betterOf f S own cost bound candidate t best < 16)
-  unfolding betterOf
-  better-ext false t best lt lb = (refl, lb)
-  better-ext true t best lt lb = (rw (same t (lt refl), same best lb), pick-below (ltb (f best) (f t) && sumsAllow S own t cost bound) (lt refl) lb)
-    where
-      pick-below : (r : Bool) {a b : ℕ} → a < 16 → b < 16 → pick r a b < 16
-      pick-below true p q = p
-      pick-below false p q = q
+  open-ext : (low high : ℕ) → own < 16 → (u : ℕ) → u < 16 → openOf f S own cost bound low high u ≡ openOf g S own cost bound low high u
+  unfolding openOf gainsBy
+  open-ext low high lo u l = rw (same own lo, same u l)
+
+  pub spans-ext : {low high start end : ℕ} → own < 16 → start ≤ 16 → Spans f S own cost bound low high start end → Spans g S own cost bound low high start end
+  spans-ext {low} {high} lo ls R = record { from = R .from; none = λ u l. sym (open-ext low high lo u (omega arith)) ∙ R .none u l; end-is = R .end-is }
 
   pub choice-below : (low high : ℕ) → own < 16 → S .count ≤ 16 → choiceOf f S own cost bound low high < 16
-  unfolding choiceOf backOf
-  choice-below low high lo lc =
-      let (e, l) = better-ext (ltb 0 high && leb high own) (high - 1) own (λ t. let m = leb-true high own (both (ltb 0 high) _ t .1) in omega arith) lo in
-      better-ext (ltb own low && ltb low (S .count)) low _ (λ t. let m = ltb-true low (S .count) (both (ltb own low) _ t .1) in omega arith) l .1
+  unfolding choiceOf
+  choice-below low high lo lc = best-below _ _ own (S .count) 16 lc lo
 
   pub choice-ext : (low high : ℕ) → own < 16 → S .count ≤ 16 → choiceOf f S own cost bound low high ≡ choiceOf g S own cost bound low high
-  unfolding choiceOf backOf
+  unfolding choiceOf
   choice-ext low high lo lc =
-      let (e, l) = better-ext (ltb 0 high && leb high own) (high - 1) own (λ t. let m = leb-true high own (both (ltb 0 high) _ t .1) in omega arith) lo in
-      better-ext (ltb own low && ltb low (S .count)) low _ (λ t. let m = ltb-true low (S .count) (both (ltb own low) _ t .1) in omega arith) l .0
-      ∙ ap (λ (b : ℕ). betterOf g S own cost bound (ltb own low && ltb low (S .count)) low b) e
+      best-alike _ _ (λ a b. ltb (f a) (f b)) (λ a b. ltb (g a) (g b)) own 16 (S .count) lo lc (λ u l. open-ext low high lo u (omega arith)) (λ a b la lb. rw (same a la, same b lb))
 
 -- the same by the sums of a walk
+pub picked-pulled : {froms tos widths table toward : List ℕ} {S : PartSums} {own cost bound low high start end h t : ℕ} → own < 16 → S .count ≤ 16 → start < end
+    → Flanks (pullTo froms tos widths table h) low high → Begins S own cost bound low high start → end ≡ min (low + 1) (S .count) → Pulled froms tos widths table h toward
+    → ((lo hi : ℕ) → Spans (λ u. getD toward u 0) S own cost bound lo hi start end → t ≡ choiceOf (λ u. getD toward u 0) S own cost bound lo hi) → t < 16
+    → PickedPart (λ u. getD toward u 0) S own cost bound low high t
+picked-pulled {S = S} {own} {cost} {bound} {low} {high} lo lc l F B e P C lt =
+    record { is = C low high (spans-ext _ _ S own cost bound (λ u g. sym (P .is u g)) lo (omega arith) (begins-spans F B e)); within = lt }
+
 pub aims-pulled : {froms tos widths table toward : List ℕ} {S : PartSums} {own cost bound low high h t : ℕ} → own < 16 → S .count ≤ 16
     → Pulled froms tos widths table h toward → PickedPart (λ u. getD toward u 0) S own cost bound low high t
     → Aims (pullTo froms tos widths table h) S own cost bound low high (record { part = t; gain = getD toward t 0 - getD toward own 0 })
@@ -139,6 +182,12 @@ placed-set {table} h t p l =
           (λ n. rw (getD-set-other table h c t 0 n) (p .low c lc));
     }
 
+-- what is known of a cluster says that it has no width to the parts between
+pub flanks-fresh : {froms tos table low high marks : List ℕ} {k h lo hi : ℕ} (widths : List ℕ) → h < 512 → Fresh froms tos table k h low high marks → lo ≡ getD low h 0 → hi ≡ getD high h 0
+    → Flanks (pullTo froms tos widths table h) lo hi
+flanks-fresh {froms} {tos} {table} {k = k} {h = h} widths l F el eh u a b =
+    pull-between froms tos widths table h k u (omega (arith, F .known .high-is h l (F .right))) (omega (arith, F .known .low-is h l (F .right)))
+
 module _ (froms tos widths costs : List ℕ) (bound h : ℕ) where
   -- a cluster to which nothing is open stays
   closed-stays : {table low high marks : List ℕ} (S : PartSums) → h < 512 → Known froms tos table (S .count) low high marks → getD marks h 0 ≡ 0
@@ -146,7 +195,7 @@ module _ (froms tos widths costs : List ℕ) (bound h : ℕ) where
   unfolding choiceAt
   closed-stays {marks = marks} S l K z =
       let n : getD marks h 0 ≡ 2 → ⊥ = λ e. omega arith in
-      rw (← K .low-is h l n, ← K .high-is h l n) (closed-idle S _ _ bound _ _ (K .closed h l z) _)
+      rw (← K .low-is h l n, ← K .high-is h l n) (closed-idle _ S _ _ bound _ _ (K .closed h l z))
 
   -- what is known of a cluster decides where it goes
   pub goal-fresh : {own lo hi : ℕ} {r : Target} {table low high marks : List ℕ} (S : PartSums) → h < 512 → Read table h 16 own → Fresh froms tos table (S .count) h low high marks
@@ -180,12 +229,12 @@ module _ (froms tos widths costs : List ℕ) (bound h : ℕ) where
   unfolding worked movedBy
   worked-stay w t e n = rw (← e, eq-eqb _ _ n)
 
-  pub worked-move : (w : Work) (own cost t gain : ℕ) (S : PartSums) → own ≡ getD (w .table) h 0 → cost ≡ getD costs h 0
+  pub worked-move : (w : Work) (own cost t gain counted : ℕ) (S : PartSums) → own ≡ getD (w .table) h 0 → cost ≡ getD costs h 0
       → t ≡ choiceAt froms tos widths costs bound h (w .table) (w .sums) → (t ≡ own → ⊥) → S ≡ shifted (w .sums) own t cost
-      → gain ≡ gainAt froms tos widths h (w .table) t
-      → _≡_ {A = Work} (record { table = set (w .table) h t; sums = S; cut = w .cut - gain; moves = w .moves + 1; moved = true }) (worked froms tos widths costs bound h w)
+      → gain ≡ gainAt froms tos widths h (w .table) t → counted ≡ when (ltb 0 gain) 1
+      → _≡_ {A = Work} (record { table = set (w .table) h t; sums = S; cut = w .cut - gain; moves = w .moves + counted; moved = true }) (worked froms tos widths costs bound h w)
   unfolding worked movedBy
-  worked-move w own cost t gain S eo ec e n es eg = rw (← e, ← eo, ← ec, ne-eqb t own n, es, eg)
+  worked-move w own cost t gain counted S eo ec e n es eg en = rw (← e, ← eo, ← ec, ne-eqb t own n, es, en, eg)
 
   -- a visit that is left out
   pub done-closed : {low high marks : List ℕ} (w : Work) → h < 512 → Placed (w .table) → Known froms tos (w .table) (w .sums .count) low high marks → getD marks h 0 ≡ 0

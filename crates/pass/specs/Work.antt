@@ -1,29 +1,58 @@
 -- The work on one rung, as the code does it: over a table of the clusters' parts and the record of sums.
-use Prim.Native.Nat.{ℕ, _+_, _-_, _≤_, _<_}
+use Prim.Native.Nat.{ℕ, _+_, _-_, _≤_, _<_, min}
 use mathlib.Core.Path.{_≡_}
-use mathlib.Core.Bool.{Bool, true, false, _&&_}
+use mathlib.Core.Bool.{Bool, true, false, not, _&&_, _||_}
 use mathlib.Core.List.{List}
 use lib.Dec.{eqb, ltb, leb}
 use lib.ListN.{getD, set}
-use Rattle.folds.specs.Fold.{pick}
+use Rattle.folds.specs.Fold.{pick, when, bestTo}
 use Rattle.neighbours.specs.Visit.{Placed, lowNext, highBefore, pullTo}
 use Rattle.neighbours.specs.Known.{Known}
 use Rattle.part_sums.specs.declared.PartSums.{PartSums}
 use Rattle.pass.specs.declared.Progress.{Progress}
 use Rattle.pass.specs.declared.Target.{Target}
-use Rattle.part_sums.specs.Sums.{sumsAllow, shifted}
+use Rattle.part_sums.specs.Sums.{sumsAllow, sumsEven, shifted}
 
--- part t in place of the best so far; f u is the cluster's width to part u
-unfoldable pub betterOf : (ℕ → ℕ) → PartSums → ℕ → ℕ → ℕ → Bool → ℕ → ℕ → ℕ
-betterOf f S own cost bound candidate t best =
-    pick (candidate && (ltb (f best) (f t) && sumsAllow S own t cost bound)) t best
+-- the cluster gains by part t, or neither gains nor loses and evens; f u is its width to part u
+unfoldable pub gainsBy : (ℕ → ℕ) → PartSums → ℕ → ℕ → ℕ → Bool
+gainsBy f S own cost t = ltb (f own) (f t) || (eqb (f t) (f own) && sumsEven S own t cost)
 
-unfoldable pub backOf : (ℕ → ℕ) → PartSums → ℕ → ℕ → ℕ → ℕ → ℕ
-backOf f S own cost bound high = betterOf f S own cost bound (ltb 0 high && leb high own) (high - 1) own
+-- part t is a candidate, allowed, and makes the table better
+unfoldable pub openOf : (ℕ → ℕ) → PartSums → ℕ → ℕ → ℕ → ℕ → ℕ → ℕ → Bool
+openOf f S own cost bound low high t =
+    (not (eqb own t) && (leb high (t + 1) && leb t low)) && (sumsAllow S own t cost bound && gainsBy f S own cost t)
 
+-- of these the one with the largest width, ties to the lowest, or the cluster's own part
 unfoldable pub choiceOf : (ℕ → ℕ) → PartSums → ℕ → ℕ → ℕ → ℕ → ℕ → ℕ
-choiceOf f S own cost bound low high =
-    betterOf f S own cost bound (ltb own low && ltb low (S .count)) low (backOf f S own cost bound high)
+choiceOf f S own cost bound low high = bestTo (S .count) (openOf f S own cost bound low high) (λ a b. ltb (f a) (f b)) own
+
+-- the best so far is the cluster's own part, or has less width than part t
+unfoldable pub beatsOf : (ℕ → ℕ) → ℕ → ℕ → ℕ → Bool
+beatsOf f own t best = eqb best own || ltb (f best) (f t)
+
+-- part t of the candidates in place of the best so far, by the tests in the code's order
+unfoldable pub betterOf : (ℕ → ℕ) → PartSums → ℕ → ℕ → ℕ → ℕ → ℕ → ℕ
+betterOf f S own cost bound t best =
+    pick (not (eqb own t) && (beatsOf f own t best && (gainsBy f S own cost t && sumsAllow S own t cost bound))) t best
+
+-- no width to the parts between the predecessors' and the successors'
+abbrev pub Flanks : (ℕ → ℕ) → ℕ → ℕ → Type 0
+Flanks f low high = (u : ℕ) → high ≤ u → u < low → f u ≡ 0
+
+-- part t is not open, whatever the other widths are
+abbrev pub Barred : PartSums → ℕ → ℕ → ℕ → ℕ → ℕ → ℕ → Type 0
+Barred S own cost bound low high t = (f : ℕ → ℕ) → Flanks f low high → openOf f S own cost bound low high t ≡ false
+
+-- no candidate is left out from part r on, and none below it is open
+pub record Begins (S : PartSums) (own cost bound low high r : ℕ) : Type 0 where
+  pub from : high ≤ r + 1
+  pub none : (u : ℕ) → u < r → Barred S own cost bound low high u
+
+-- the open parts are from start on and below end, where each is a candidate but the own one
+pub record Spans (f : ℕ → ℕ) (S : PartSums) (own cost bound low high start end : ℕ) : Type 0 where
+  pub from : high ≤ start + 1
+  pub none : (u : ℕ) → u < start → openOf f S own cost bound low high u ≡ false
+  pub end-is : end ≡ min (low + 1) (S .count)
 
 -- r is that part, and one of the 16
 pub record PickedPart (f : ℕ → ℕ) (S : PartSums) (own cost bound low high r : ℕ) : Type 0 where
@@ -34,10 +63,6 @@ pub record PickedPart (f : ℕ → ℕ) (S : PartSums) (own cost bound low high 
 pub record Aims (f : ℕ → ℕ) (S : PartSums) (own cost bound low high : ℕ) (r : Target) : Type 0 where
   pub chosen : PickedPart f S own cost bound low high (r .part)
   pub gain-is : r .gain ≡ f (r .part) - f own
-
--- a cluster stays in its part, whatever its widths are
-abbrev pub Idle : PartSums → ℕ → ℕ → ℕ → ℕ → ℕ → Type 0
-Idle S own cost bound low high = (f : ℕ → ℕ) → choiceOf f S own cost bound low high ≡ own
 
 -- the clusters' parts, the sums, the cut, the moves counted so far, and whether the pass at hand has moved something
 pub record Work : Type 0 where
@@ -63,6 +88,7 @@ choiceAt froms tos widths costs bound h table S =
 unfoldable pub gainAt : List ℕ → List ℕ → List ℕ → ℕ → List ℕ → ℕ → ℕ
 gainAt froms tos widths h table t = pullTo froms tos widths table h t - pullTo froms tos widths table h (getD table h 0)
 
+-- the work after h has gone to part t; a move that gains nothing is not counted
 unfoldable pub movedBy : List ℕ → List ℕ → List ℕ → List ℕ → ℕ → ℕ → Work → Work
 movedBy froms tos widths costs h t w =
     pick (eqb t (getD (w .table) h 0)) w
@@ -70,7 +96,7 @@ movedBy froms tos widths costs h t w =
       table = set (w .table) h t;
       sums = shifted (w .sums) (getD (w .table) h 0) t (getD costs h 0);
       cut = w .cut - gainAt froms tos widths h (w .table) t;
-      moves = w .moves + 1;
+      moves = w .moves + when (ltb 0 (gainAt froms tos widths h (w .table) t)) 1;
       moved = true;
     })
 

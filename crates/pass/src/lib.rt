@@ -1,12 +1,13 @@
-// A pass over the clusters of a rung: each goes where an allowed candidate gains.
-ghost use mathlib.Core.Bool.{true};
+// A pass over the clusters of a rung: each goes where an allowed candidate gains most, or evens two parts out where none gains.
+ghost use mathlib.Core.Bool.{false};
 ghost use mathlib.Core.Path.{_≡_};
-ghost use Prim.Native.Nat.{ℕ, _<_, _≤_, _^_};
+ghost use Prim.Native.Nat.{ℕ, _+_, _-_, _<_, _≤_, _^_, min};
+ghost use lib.Dec.{ltb};
 ghost use lib.ListN.{length, getD};
-ghost use Rattle.folds.specs.Fold.{turns};
+ghost use Rattle.folds.specs.Fold.{when, turns};
 ghost use Rattle.neighbours.specs.Visit.{Placed, Listed, Indexed, pullTo};
 ghost use Rattle.neighbours.specs.Known.{Known};
-ghost use Rattle.pass.specs.Work.{betterOf, backOf, PickedPart, Aims, Idle, workOf, begun, worked, Paid, Goal, WorkDone};
+ghost use Rattle.pass.specs.Work.{gainsBy, choiceOf, beatsOf, betterOf, Flanks, Barred, Begins, Spans, Aims, workOf, begun, worked, Paid, Goal, WorkDone};
 use part_sums::PartSums;
 
 // The sums, the cut, the moves counted so far, and whether the pass at hand has moved something.
@@ -23,7 +24,34 @@ struct Target {
     gain: u32,
 }
 
-// Part t, where it is allowed and the cluster is more tied to it than to the best part so far.
+// Whether the cluster gains by part t, or neither gains nor loses and evens the two parts out.
+fn gains(toward: &[u32; 16], sums: PartSums, own: usize, t: usize, cost: u32) -> bool
+    requires { ⌜ length (now toward) ≡ 16 ⌝ }
+    requires { ⌜ (own < 16) × (t < 16) ⌝ }
+    ensures { λ r. ⌜ r ≡ gainsBy (λ u. getD (now (toward .entry)) u 0) sums own cost t ⌝ }
+{
+    if toward[own] < toward[t] {
+        return true;
+    }
+    if toward[t] != toward[own] {
+        return false;
+    }
+    sums.evens(own, t, cost)
+}
+
+// Whether part t comes before the best so far, if it is open.
+fn beats(toward: &[u32; 16], own: usize, t: usize, best: usize) -> bool
+    requires { ⌜ length (now toward) ≡ 16 ⌝ }
+    requires { ⌜ (t < 16) × (best < 16) ⌝ }
+    ensures { λ r. ⌜ r ≡ beatsOf (λ u. getD (now (toward .entry)) u 0) own t best ⌝ }
+{
+    if best == own {
+        return true;
+    }
+    toward[best] < toward[t]
+}
+
+// Part t of the candidates, where it is open and comes before the best so far, or that.
 fn better(
     toward: &[u32; 16],
     sums: PartSums,
@@ -35,10 +63,18 @@ fn better(
 ) -> usize
     requires { ⌜ length (now toward) ≡ 16 ⌝ }
     requires { ⌜ (own < 16) × (t < 16) × (best < 16) ⌝ }
-    ensures { λ r. ⌜ r ≡ betterOf (λ u. getD (now (toward .entry)) u 0) sums own cost bound true t best ⌝ }
+    ensures { λ r. ⌜ r ≡ betterOf (λ u. getD (now (toward .entry)) u 0) sums own cost bound t best ⌝ }
     ensures { λ r. ⌜ r < 16 ⌝ }
 {
-    if toward[t] <= toward[best] {
+    if own == t {
+        return best;
+    }
+    let ahead = beats(toward, own, t, best);
+    if !ahead {
+        return best;
+    }
+    let gain = gains(toward, sums, own, t, cost);
+    if !gain {
         return best;
     }
     let allowed = sums.lets(own, t, cost, bound);
@@ -48,81 +84,98 @@ fn better(
     best
 }
 
-// The back candidate, where it gains and is allowed, or the cluster's own part.
-fn back(toward: &[u32; 16], sums: PartSums, own: usize, high: usize, cost: u32, bound: u32) -> usize
-    requires { ⌜ length (now toward) ≡ 16 ⌝ }
-    requires { ⌜ own < 16 ⌝ }
-    ensures { λ r. ⌜ r ≡ backOf (λ u. getD (now (toward .entry)) u 0) sums own cost bound high ⌝ }
-    ensures { λ r. ⌜ r < 16 ⌝ }
-{
-    if high == 0 {
-        return own;
-    }
-    if own < high {
-        return own;
-    }
-    better(toward, sums, own, high - 1, own, cost, bound)
-}
-
-// Where a cluster goes: of the allowed candidates the one that gains most, the back one where both gain the same, or its own part.
+// Where a cluster goes: of the parts from start on and below end the one that gains most, the lowest of those that gain the same, or its own.
 fn choice(
     toward: &[u32; 16],
     sums: PartSums,
     own: usize,
-    low: usize,
-    high: usize,
+    start: usize,
+    end: usize,
     cost: u32,
     bound: u32,
 ) -> usize
     requires { ⌜ length (now toward) ≡ 16 ⌝ }
-    requires { ⌜ (own < 16) × (sums .count ≤ 16) ⌝ }
-    ensures { λ r. ⌜ PickedPart (λ u. getD (now (toward .entry)) u 0) sums own cost bound low high r ⌝ }
+    requires { ⌜ (own < 16) × (start ≤ end) × (end ≤ 16) ⌝ }
+    ensures { λ r. ⌜ ((low high : ℕ) → Spans (λ u. getD (now (toward .entry)) u 0) sums own cost bound low high start end → r ≡ choiceOf (λ u. getD (now (toward .entry)) u 0) sums own cost bound low high) ⌝ }
+    ensures { λ r. ⌜ r < 16 ⌝ }
 {
-    let b = back(toward, sums, own, high, cost, bound);
-    if low <= own {
-        return b;
+    let mut best = own;
+    let mut t = start;
+    while t < end {
+        best = better(toward, sums, own, t, best, cost, bound);
+        t += 1;
     }
-    if sums.count <= low {
-        return b;
-    }
-    better(toward, sums, own, low, b, cost, bound)
+    best
 }
 
-// No back candidate of the cluster is allowed.
-fn back_barred(sums: PartSums, own: usize, high: usize, cost: u32, bound: u32) -> bool
-    requires { ⌜ own < 16 ⌝ }
-    ensures { λ r. ⌜ (r ≡ true → (f : ℕ → ℕ) → backOf f sums own cost bound high ≡ own) ⌝ }
+// The lowest part that can be a candidate.
+fn first_part(high: usize) -> usize
+    ensures { λ r. ⌜ r ≡ high - 1 ⌝ }
 {
     if high == 0 {
-        return true;
+        return 0;
     }
-    if own < high {
-        return true;
-    }
-    let allowed = sums.lets(own, high - 1, cost, bound);
-    !allowed
+    high - 1
 }
 
-// No candidate of the cluster is allowed, so that it stays whatever its widths are.
-fn idle(sums: PartSums, own: usize, low: usize, high: usize, cost: u32, bound: u32) -> bool
-    requires { ⌜ (own < 16) × (sums .count ≤ 16) ⌝ }
-    ensures { λ r. ⌜ (r ≡ true → Idle sums own cost bound low high) ⌝ }
+// One more than the highest part that can be a candidate.
+fn parts_end(low: usize, count: usize) -> usize
+    ensures { λ r. ⌜ r ≡ min (low + 1) count ⌝ }
 {
-    let barred = back_barred(sums, own, high, cost, bound);
-    if !barred {
+    if count <= low {
+        return count;
+    }
+    low + 1
+}
+
+// Whether part t is worth a look at the widths. The cluster has none to a part between its predecessors' and its successors', so that it goes
+// there only if it evens.
+fn worth(
+    sums: PartSums,
+    own: usize,
+    t: usize,
+    low: usize,
+    high: usize,
+    cost: u32,
+    bound: u32,
+) -> bool
+    requires { ⌜ (own < 16) × (t < 16) ⌝ }
+    ensures { λ r. ⌜ (r ≡ false → Barred sums own cost bound low high t) ⌝ }
+{
+    if own == t {
         return false;
     }
-    if low <= own {
+    let allowed = sums.lets(own, t, cost, bound);
+    if !allowed {
+        return false;
+    }
+    if t == low {
         return true;
     }
-    if sums.count <= low {
+    if t + 1 == high {
         return true;
     }
-    let allowed = sums.lets(own, low, cost, bound);
-    !allowed
+    sums.evens(own, t, cost)
 }
 
-// Where cluster h goes, by the parts around it. Its widths are looked at where some candidate is allowed. The first pair of links is by the
+// The first candidate that is worth a look at the widths, or a part past the last.
+fn first_worth(sums: PartSums, own: usize, low: usize, high: usize, cost: u32, bound: u32) -> usize
+    requires { ⌜ (own < 16) × (sums .count ≤ 16) ⌝ }
+    ensures { λ r. ⌜ Begins sums own cost bound low high r ⌝ }
+{
+    let end = parts_end(low, sums.count);
+    let mut t = first_part(high);
+    while t < end {
+        let look = worth(sums, own, t, low, high, cost, bound);
+        if look {
+            return t;
+        }
+        t += 1;
+    }
+    t
+}
+
+// Where cluster h goes, by the parts around it. Its widths are looked at where some candidate is worth it. The first pair of links is by the
 // edges' starts, the second by their ends; here and below.
 fn decide(
     from: &[u16],
@@ -145,10 +198,12 @@ fn decide(
     requires { ⌜ Indexed (now from) (now to) (now head) (now next) (now «head_in») (now «next_in») ⌝ }
     requires { ⌜ Placed (now table) ⌝ }
     requires { ⌜ (h < 512) × (own < 16) × (sums .count ≤ 16) ⌝ }
+    requires { ⌜ Flanks (pullTo (now from) (now to) (now widths) (now table) h) low high ⌝ }
     ensures { λ r. ⌜ Aims (pullTo (now (from .entry)) (now (to .entry)) (now (widths .entry)) (now (table .entry)) h) sums own cost bound low high r ⌝ }
 {
-    let still = idle(sums, own, low, high, cost, bound);
-    if still {
+    let start = first_worth(sums, own, low, high, cost, bound);
+    let end = parts_end(low, sums.count);
+    if end <= start {
         return Target { part: own, gain: 0 };
     }
     let mut toward = [0u32; 16];
@@ -164,7 +219,7 @@ fn decide(
         h,
         &mut toward,
     );
-    let t = choice(&toward, sums, own, low, high, cost, bound);
+    let t = choice(&toward, sums, own, start, end, cost, bound);
     Target {
         part: t,
         gain: toward[t] - toward[own],
@@ -231,7 +286,18 @@ fn goal(
     )
 }
 
-// Visits cluster h, and moves it where an allowed candidate gains. One to which no candidate is open is passed over.
+// How much the count of moves rises: a move that only evens is not counted.
+fn counted(gain: u32) -> usize
+    ensures { λ r. ⌜ r ≡ when (ltb 0 gain) 1 ⌝ }
+    ensures { λ r. ⌜ r ≤ 1 ⌝ }
+{
+    if 0 < gain {
+        return 1;
+    }
+    0
+}
+
+// Visits cluster h, and moves it where its choice is another part; a move that gains nothing is not counted. One to which no candidate is open is passed over.
 fn refine_cluster(
     from: &[u16],
     to: &[u16],
@@ -287,10 +353,11 @@ fn refine_cluster(
     table[h] = t as u16;
     neighbours::rouse(from, to, head, next, head_in, next_in, h, marks);
     let after = sums.moved(own, t, costs[h]);
+    let more = counted(aim.gain);
     Progress {
         sums: after,
         cut: before.cut - aim.gain,
-        moves: before.moves + 1,
+        moves: before.moves + more,
         moved: true,
     }
 }

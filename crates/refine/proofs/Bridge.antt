@@ -5,6 +5,8 @@ use mathlib.Core.Bool.{Bool, true, false, not, _&&_}
 use mathlib.Core.List.{List}
 use native.Mathlib.Omega.{arith}
 use lib.Dec.{eqb, ltb, leb}
+use lib.IntN.{pos}
+use lib.Signed.{ltZ}
 use lib.ListN.{length, getD, set}
 use lib.Seq.{getD-set-same, getD-set-other}
 use borrow.Author.Tests.{eqb-true, eq-eqb, ne-eqb, ltb-true, leb-true, lt-ltb, le-ltb}
@@ -13,20 +15,22 @@ use Rattle.folds.proofs.Cases.{by, both, either, eq-or-ne, same-test}
 use Rattle.folds.proofs.Sums.{sumTo-ext, sumTo-add, sumTo-none, sumTo-member}
 use Rattle.folds.proofs.Searches.{any-e, any-none}
 use Rattle.folds.proofs.Lists.{listTo-ext}
+use Rattle.folds.proofs.Best.{best-alike}
 use Rattle.graph.specs.Graph.{Graph, vertices, cutOf, costIn, partCost, through, RowOf, Proper}
 use Rattle.graph.specs.Coarse.{Coarse}
 use Rattle.graph.specs.Rows.{clusters}
 use Rattle.graph.proofs.Edges.{through-at, length-through}
 use Rattle.graph.proofs.Tables.{size-cost}
 use Rattle.refinement.specs.Move.{movedTo, partOf, pull, gainTo}
-use Rattle.refinement.specs.Pass.{lowestNext, aboveBefore, stays, allows, tried, goesBack, target, Tally, settledAt, visited, passOf}
-use Rattle.refinement.proofs.Visits.{no-less, target-chosen}
+use Rattle.refinement.specs.Pass.{lowestNext, aboveBefore, stays, allows, isCandidate, improves, target, Tally, settledAt, visited, passOf}
+use Rattle.refinement.proofs.Visits.{target-improves}
 use Rattle.refinement.proofs.Move.{cut-move, cost-new, cost-old, cost-third}
-use Rattle.refinement.proofs.Signed.{less-gain}
+use Rattle.refinement.proofs.Gains.{gain-less, gain-above, improves-pull}
+use Rattle.refinement.proofs.Spread.{even-sums}
 use Rattle.refinement.proofs.Entries.{first-of, moved-at}
 use Rattle.neighbours.specs.Visit.{Placed, pullTo}
-use Rattle.part_sums.specs.Sums.{SumsOf, sizeAllowed, sumsAllow}
-use Rattle.pass.specs.Work.{betterOf, backOf, choiceOf, Work, begun, choiceAt, gainAt, movedBy, worked, Paid}
+use Rattle.part_sums.specs.Sums.{SumsOf, sizeAllowed, sumsAllow, sumsEven}
+use Rattle.pass.specs.Work.{gainsBy, openOf, choiceOf, Work, begun, choiceAt, gainAt, movedBy, worked, Paid}
 use Rattle.part_sums.proofs.Sums.{shifted-sums}
 use Rattle.pass.proofs.Work.{placed-set, choice-below, choice-ext}
 use Rattle.refine.specs.Rung.{Tracks}
@@ -49,11 +53,11 @@ moved-through row table h t l = rw (length-through row table) (listTo-ext (lengt
 
 -- something is found exactly if the sum over what is found is above 0
 any-sum : (n : ℕ) (p : ℕ → Bool) (c : ℕ → ℕ) → ((v : ℕ) → v < n → 0 < c v) → anyTo n p ≡ ltb 0 (sumTo n (λ v. when (p v) (c v)))
-any-sum n p c pos =
+any-sum n p c some =
     by (anyTo n p)
     (λ t. let (v, l, e) = any-e n p t in
     let m : when (p v) (c v) ≤ sumTo n (λ i. when (p i) (c i)) = sumTo-member n (λ i. when (p i) (c i)) v l in
-    rw t (sym (lt-ltb 0 (sumTo n (λ i. when (p i) (c i))) (let w = rw e at m in omega (arith, pos v l)))))
+    rw t (sym (lt-ltb 0 (sumTo n (λ i. when (p i) (c i))) (let w = rw e at m in omega (arith, some v l)))))
     (λ t. rw t (sym (le-ltb 0 (sumTo n (λ i. when (p i) (c i))) (omega (arith, sumTo-none n (λ i. when (p i) (c i)) (λ v l. rw (any-none n p t v l)))))))
 
 and-swap : (a b : Bool) → (a && b) ≡ (b && a)
@@ -145,11 +149,27 @@ module _ (G : Graph) (P : Proper G) (k bound : ℕ) (row costs froms tos widths 
       rw (stays-sum G P row parts h own all own-is, size-cost G (movedTo row h t parts) t, cost-new G (P .formed) row parts (movedTo row h t parts) h own t all (upd t) n, R .is own own-low, R .is t l, cost-is)
       (and-swap (leb (partCost (G .costs) parts t + partCost (G .costs) row h) bound) (ltb (partCost (G .costs) row h) (partCost (G .costs) parts own)))
 
-  tried-better : (candidate : Bool) (t best : ℕ) → (candidate ≡ true → (own ≡ t → ⊥) × (t < 16)) → tried G bound row parts h candidate t best ≡ betterOf (pull G row parts h) (w .sums) own cost bound candidate t best
-  unfolding tried betterOf gainTo
-  tried-better false t best c = refl
-  tried-better true t best c =
-      let (n, l) = c refl in rw (less-gain (pull G row parts h best) (pull G row parts h t) (pull G row parts h (partOf row parts h)), allows-sums t n l)
+  -- a cluster has a vertex, so it costs something
+  costly : 0 < partCost (G .costs) row h
+  unfolding partCost costIn
+  costly =
+      let (v, l, e) = some in
+      let m = sumTo-member (vertices G) (λ i. when (eqb (getD row i 0) h) (getD (G .costs) i 0)) v l in
+      let q = rw (eq-eqb (getD row v 0) h e) at m in omega (arith, P .costly v l)
+
+  improves-sums : (t : ℕ) → (own ≡ t → ⊥) → t < 16 → gainsBy (pull G row parts h) (w .sums) own cost t ≡ improves G row parts h t
+  unfolding improves gainsBy sumsEven cost parts
+  improves-sums t n l =
+      rw (gain-above G row parts h t, own-is, even-sums G (P .formed) row parts (movedTo row h t parts) h own t all (upd t) n costly, R .is own own-low, R .is t l, cost-is)
+
+  -- what is open by the sums is an allowed candidate that improves
+  open-sums : (t : ℕ) → t < w .sums .count
+      → openOf (pull G row parts h) (w .sums) own cost bound (lowestNext G (w .sums .count) row parts h) (aboveBefore G row parts h) t
+      ≡ (isCandidate G (w .sums .count) row parts h t && (allows G bound row parts h t && improves G row parts h t))
+  unfolding openOf isCandidate
+  open-sums t l =
+      either (eq-or-ne own t) (λ e. rw (own-is, eq-eqb own t e))
+      (λ n. let lt : t < 16 = omega (arith, R .counts) in rw (own-is, ne-eqb own t n, improves-sums t n lt, allows-sums t n lt))
 
   -- the lists say what the graph says
   choice-graph : choiceAt froms tos widths costs bound h (w .table) (w .sums) ≡ choiceOf (pull G row parts h) (w .sums) own cost bound (lowestNext G (w .sums .count) row parts h) (aboveBefore G row parts h)
@@ -159,25 +179,8 @@ module _ (G : Graph) (P : Proper G) (k bound : ℕ) (row costs froms tos widths 
       ∙ rw (low-lists lists (P .formed) row-of (P .wide) (w .table) h (w .sums .count), high-lists lists (P .formed) row-of (P .wide) (w .table) h)
 
   choice-counted : choiceOf (pull G row parts h) (w .sums) own cost bound (lowestNext G (w .sums .count) row parts h) (aboveBefore G row parts h) ≡ target G (w .sums .count) bound row parts h
-  unfolding choiceOf backOf target goesBack
-  choice-counted =
-      sym
-      (rw own-is
-      (tried-better (ltb own low && ltb low (w .sums .count)) low _ (λ t.
-      let (a, b) = both (ltb own low) _ t in
-      let la = ltb-true own low a in
-      let lb = ltb-true low (w .sums .count) b in ((λ e. omega arith), omega (arith, R .counts)))
-      ∙ ap (λ (x : ℕ). betterOf (pull G row parts h) (w .sums) own cost bound (ltb own low && ltb low (w .sums .count)) low x)
-      (tried-better (ltb 0 high && leb high own) (high - 1) own (λ t.
-      let (a, b) = both (ltb 0 high) _ t in
-      let la = ltb-true 0 high a in
-      let lb = leb-true high own b in ((λ e. omega arith), omega (arith, own-low))))))
-    where
-      low : ℕ
-      low = lowestNext G (w .sums .count) row parts h
-
-      high : ℕ
-      high = aboveBefore G row parts h
+  unfolding choiceOf target
+  choice-counted = rw own-is (best-alike _ _ _ _ own 16 (w .sums .count) own-low (omega (arith, R .counts)) open-sums (λ a b _ _. sym (gain-less G row parts h a b)))
 
   -- the code's choice is the definitions'
   choice-target : choiceAt froms tos widths costs bound h (w .table) (w .sums) ≡ target G k bound row parts h
@@ -198,27 +201,40 @@ module _ (G : Graph) (P : Proper G) (k bound : ℕ) (row costs froms tos widths 
   unfolding parts
   gains =
       rw (pull-lists lists (P .formed) row-of (P .wide) (w .table) h own, pull-lists lists (P .formed) row-of (P .wide) (w .table) h (target G k bound row parts h), ← own-is)
-      (no-less G row parts h bound (target G k bound row parts h) (target-chosen G row parts h bound k in-row))
+      (either (target-improves G row parts h k bound in-row) (λ e. rw e (omega arith)) (λ x. omega (arith, improves-pull G row parts h (target G k bound row parts h) (x .1))))
+
+  -- a move counts where its gain is above 0
+  counted : (t : ℕ) → ltb 0 (gainAt froms tos widths h (w .table) t) ≡ ltZ (pos 0) (gainTo G row parts h t)
+  unfolding gainAt parts own
+  counted t =
+      rw (pull-lists lists (P .formed) row-of (P .wide) (w .table) h (getD (w .table) h 0), pull-lists lists (P .formed) row-of (P .wide) (w .table) h t, gain-above G row parts h t, own-is)
+      (same-test (ltb 0 (pull G row parts h t - pull G row parts h own)) (ltb (pull G row parts h own) (pull G row parts h t))
+      (λ e. let l = ltb-true 0 (pull G row parts h t - pull G row parts h own) e in lt-ltb (pull G row parts h own) (pull G row parts h t) (omega arith))
+      (λ e. let l = ltb-true (pull G row parts h own) (pull G row parts h t) e in lt-ltb 0 (pull G row parts h t - pull G row parts h own) (omega arith)))
 
   pub worked-paid : Paid froms tos widths costs bound h w
   unfolding Paid gainAt parts own
   worked-paid = rw choice-target (omega (arith, cut-falls (target G k bound row parts h), gains, T .cut-is))
 
+  cut-left : w .cut - gainAt froms tos widths h (w .table) (target G k bound row parts h) ≡ cutOf G (movedTo row h (target G k bound row parts h) parts)
+  unfolding gainAt parts own
+  cut-left = omega (arith, cut-falls (target G k bound row parts h), gains, T .cut-is)
+
   pub worked-visited : Follows G k row (worked froms tos widths costs bound h w) (visited G k bound row h (tallied row w))
-  unfolding worked movedBy gainAt visited settledAt parts own
+  unfolding worked movedBy visited settledAt parts own
   worked-visited =
       rw (choice-target, own-is)
       (either (eq-or-ne t own) (λ e. rw (eq-eqb t own e) (record { is = refl; tracks = T; placed = placed }))
       (λ n. rw (ne-eqb t own n)
       (record {
-        is = ap (λ (l : List ℕ). record { parts = l; moves = w .moves + 1; moved = true }) (sym (moved-through row (w .table) h t (omega (arith, placed .long))));
+        is = rw (counted t) (ap (λ (l : List ℕ). record { parts = l; moves = w .moves + when (ltZ (pos 0) (gainTo G row parts h t)) 1; moved = true }) (sym (moved-through row (w .table) h t (omega (arith, placed .long)))));
         tracks = rw (← moved-through row (w .table) h t (omega (arith, placed .long)), cost-is)
             (record {
               sums = shifted-sums (w .sums) own t (partCost (G .costs) row h) 0 R (λ e. n (sym e)) own-low low
                   (cost-old G (P .formed) row parts (movedTo row h t parts) h own t all (upd t) (λ e. n (sym e)))
                   (cost-new G (P .formed) row parts (movedTo row h t parts) h own t all (upd t) (λ e. n (sym e)))
                   (cost-third G (P .formed) row parts (movedTo row h t parts) h own t all (upd t));
-              cut-is = omega (arith, cut-falls t, gains, T .cut-is);
+              cut-is = cut-left;
             });
         placed = placed-set h t placed low;
       })))

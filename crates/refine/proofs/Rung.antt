@@ -40,7 +40,7 @@ good-here I = record { kept = omega arith; table = I }
 -- some number of passes, which is enough, makes R of s
 pub record Going (G : Graph) (k bound : ℕ) (row : List ℕ) (s R : Tally) : Type 0 where
   pub left : ℕ
-  pub enough : measure G (s .parts) < left
+  pub enough : measure G k (s .parts) < left
   pub comes : repeated G k bound row left s ≡ R
 
 -- the code's work w, on its way to R
@@ -57,7 +57,7 @@ module _ (G : Graph) (P : Proper G) (k bound : ℕ) (few : k ≤ 16) (row costs 
   unfolding repeated
   going-turn s R I n g = go (g .left) (g .enough) (g .comes)
     where
-      go : (left : ℕ) → measure G (s .parts) < left → repeated G k bound row left s ≡ R → Going G k bound row (passOf G k bound row s) R
+      go : (left : ℕ) → measure G k (s .parts) < left → repeated G k bound row left s ≡ R → Going G k bound row (passOf G k bound row s) R
       go zero l e = absurd (not-suc-le-zero l)
       go (suc left) l e =
           record {
@@ -70,7 +70,7 @@ module _ (G : Graph) (P : Proper G) (k bound : ℕ) (few : k ≤ 16) (row costs 
   unfolding repeated
   going-end s R q g = go (g .left) (g .enough) (g .comes)
     where
-      go : (left : ℕ) → measure G (s .parts) < left → repeated G k bound row left s ≡ R → passOf G k bound row s ≡ R
+      go : (left : ℕ) → measure G k (s .parts) < left → repeated G k bound row left s ≡ R → passOf G k bound row s ≡ R
       go zero l e = absurd (not-suc-le-zero l)
       go (suc left) l e = pick-no _ _ _ _ q refl ∙ e
 
@@ -93,7 +93,7 @@ module _ (G : Graph) (P : Proper G) (k bound : ℕ) (few : k ≤ 16) (row costs 
     parts-as = ap (λ (t : Tally). t .parts) (follows .is)
 
     -- a pass that moved something: on the way, with a smaller measure
-    pub stands-fall : w′ .moved ≡ true → measure G (through row (w′ .table)) < measure G (through row (w .table))
+    pub stands-fall : w′ .moved ≡ true → measure G k (through row (w′ .table)) < measure G k (through row (w .table))
     unfolding s
     stands-fall n = rw parts-as (pass-falls G P k bound (λ r. row) 0 (alone row (C .row-of .whole)) 0 s (good-here (x .good)) (sym moved-as ∙ n))
 
@@ -168,7 +168,7 @@ module _ {G : Graph} {k bound : ℕ} {row parts : List ℕ} {moves : ℕ} (A : R
 pub ready-stands : {G : Graph} {k bound : ℕ} {row : List ℕ} (w : Work) → RowReady G k bound row (through row (w .table)) (w .moves)
     → Tracks G (through row (w .table)) k (w .sums) (w .cut) → Placed (w .table) → Stands G k bound row (refinedOn G k bound row (tallyOf (through row (w .table)) (w .moves))) w
 unfolding refinedOn passes repeated passOf
-ready-stands {G} {row = row} w A r p = record { tracks = r; placed = p; good = A .good; going = record { left = passes G (through row (w .table)); enough = omega arith; comes = refl }; room = A .room }
+ready-stands {G} {k} {row = row} w A r p = record { tracks = r; placed = p; good = A .good; going = record { left = passes G k (through row (w .table)); enough = omega arith; comes = refl }; room = A .room }
 
 -- the work on a rung as a whole: into the clusters' table, and back
 module _ {G : Graph} {k bound : ℕ} {row parts : List ℕ} {moves : ℕ} (A : RowReady G k bound row parts moves) (table : List ℕ) (I : Inherits row parts (length row) table) where

@@ -12,7 +12,7 @@ use Rattle.pass.specs.declared.Progress.{Progress}
 use Rattle.part_sums.specs.declared.PartSums.{PartSums}
 use Rattle.part_sums.specs.Sums.{SumsOf}
 
--- a row with no empty cluster, and a table that is good on it; the moves so far leave room for those to come, each of which lowers the cut
+-- a row with no empty cluster, and a table that is good on it; the moves counted so far leave room for those to come, each of which lowers the cut
 pub record RowReady (G : Graph) (k bound : ℕ) (row parts : List ℕ) (moves : ℕ) : Type 0 where
   pub proper : Proper G
   pub row-of : RowOf G row (clusters row)

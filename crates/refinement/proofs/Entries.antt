@@ -2,14 +2,16 @@
 use Prim.Native.Nat.{ℕ, zero, suc, _+_, _-_, _≤_, _<_}
 use mathlib.Core.Path.{_≡_, refl, sym, _∙_}
 use mathlib.Core.Bool.{Bool, true, false}
+use mathlib.Core.Logic.{inl, inr}
 use mathlib.Core.List.{List, [], _∷_}
 use native.Mathlib.Nat.{not-suc-le-zero}
 use native.Mathlib.Omega.{arith}
 use lib.Dec.{eqb}
 use lib.IntN.{pos, _+ℤ_, +ℤ-idr}
+use lib.Signed.{ltZ}
 use lib.ListN.{length, getD, take}
 use borrow.Author.Tests.{eqb-true, eq-eqb, ltb-true}
-use Rattle.folds.specs.Fold.{pick, firstTo, anyTo}
+use Rattle.folds.specs.Fold.{pick, when, firstTo, anyTo}
 use Rattle.folds.proofs.Cases.{either}
 use Rattle.folds.proofs.Searches.{any-i, firstTo-hit}
 use Rattle.folds.proofs.Lists.{length-listTo, getD-listTo}
@@ -17,10 +19,13 @@ use Rattle.graph.specs.Graph.{Graph, vertices, edges, via, Formed, Proper}
 use Rattle.graph.specs.Rows.{Hierarchy}
 use Rattle.graph.specs.Table.{partSize, placeAt}
 use Rattle.graph.proofs.Tables.{size-cost, place-is}
-use Rattle.refinement.specs.Move.{movedTo, partOf, leaves, pull, gainTo, Back, Onward, Candidate, Stays, Allowed}
+use Rattle.refinement.specs.Move.{movedTo, partOf, leaves, pull, gainTo, Stays, Allowed, Improves}
 use Rattle.refinement.specs.Entries.{State, stateOf, Entry, move, down, step, after, Admits, AllAllowed, cutAt, gain, gains, GoodAt}
-use Rattle.refinement.proofs.Move.{leaves-e, within-touched, cut-move, order-move, cost-third, cost-old, filled-move}
+use Rattle.refinement.proofs.Move.{within-touched, cut-move, order-move, cost-third, cost-old, filled-move}
+use Rattle.refinement.specs.Pass.{measure}
 use Rattle.refinement.proofs.Signed.{signed, signed-chain}
+use Rattle.refinement.proofs.Gains.{improves-pull}
+use Rattle.refinement.proofs.Spread.{measure-falls}
 
 -- what the laws of moves ask of the rows 0 to top: an entry for each vertex, and what a row joins, the row above joins
 pub record Nested (G : Graph) (rows : ℕ → List ℕ) (top : ℕ) : Type 0 where
@@ -124,53 +129,30 @@ module _ (G : Graph) (P : Proper G) (k bound : ℕ) (rows : ℕ → List ℕ) (t
         pick-below true p q = p
         pick-below false p q = q
 
-    -- a candidate is such a part, and another one than h's own
-    pub record Between (h t : ℕ) : Type 0 where
-      pub low : (j : ℕ) → j < edges G → leaves (rows (s .rung)) (G .ends) (G .starts) h j ≡ true → placeAt G k (s .parts) (via (s .parts) (G .starts) j) ≤ placeAt G k (s .parts) t
-      pub high : (j : ℕ) → j < edges G → leaves (rows (s .rung)) (G .starts) (G .ends) h j ≡ true → placeAt G k (s .parts) t ≤ placeAt G k (s .parts) (via (s .parts) (G .ends) j)
-      pub below : t < k
-      pub other : partOf (rows (s .rung)) (s .parts) h ≡ t → ⊥
+    own-below : (h : ℕ) → Stays G (rows (s .rung)) (s .parts) h → partOf (rows (s .rung)) (s .parts) h < k
+    own-below h (v, l, e, n) = rw e at (I .table .below v l)
 
-    -- an edge out of h starts at h's own part, and an edge into h ends there
-    own-start : (h j : ℕ) → j < edges G → leaves (rows (s .rung)) (G .starts) (G .ends) h j ≡ true → via (s .parts) (G .starts) j ≡ partOf (rows (s .rung)) (s .parts) h
-    own-start h j l t = all-own h _ (P .formed .start-in j l) (leaves-e (rows (s .rung)) (G .starts) (G .ends) h j t .0)
-
-    own-end : (h j : ℕ) → j < edges G → leaves (rows (s .rung)) (G .ends) (G .starts) h j ≡ true → via (s .parts) (G .ends) j ≡ partOf (rows (s .rung)) (s .parts) h
-    own-end h j l t = all-own h _ (P .formed .end-in j l) (leaves-e (rows (s .rung)) (G .ends) (G .starts) h j t .0)
-
-    back-between : (h t : ℕ) → Back G (rows (s .rung)) (s .parts) h t → Between h t
+    pub good-allowed : (h t : ℕ) → Allowed G k bound (rows (s .rung)) (s .parts) h t → GoodAt G k bound rows top (step rows (move h t) s)
     unfolding placeAt
-    back-between h t b =
-        record {
-          low = b .highest;
-          high = λ j l e. omega (arith, b .lower, own-start h j l e, I .table .forward j l);
-          below = let (j, l, e, q) = b .some in omega (arith, I .table .below (getD (G .starts) j 0) (P .formed .start-in j l));
-          other = λ e. omega (arith, b .lower);
-        }
-
-    onward-between : (h t : ℕ) → Onward G (rows (s .rung)) (s .parts) h t → Between h t
-    unfolding placeAt
-    onward-between h t b =
-        record {
-          low = λ j l e. omega (arith, b .higher, own-end h j l e, I .table .forward j l);
-          high = b .lowest;
-          below = let (j, l, e, q) = b .some in omega (arith, I .table .below (getD (G .ends) j 0) (P .formed .end-in j l));
-          other = λ e. omega (arith, b .higher);
-        }
-
-    pub candidate-between : (h t : ℕ) → Candidate G (rows (s .rung)) (s .parts) h t → Between h t
-    candidate-between h t c = either c (back-between h t) (onward-between h t)
-
-    pub good-allowed : (h t : ℕ) → Allowed G bound (rows (s .rung)) (s .parts) h t → GoodAt G k bound rows top (step rows (move h t) s)
     good-allowed h t a =
-        let b = candidate-between h t (a .candidate) in
-        let (v, l, e, n) = a .stays in
-        let lo : partOf (rows (s .rung)) (s .parts) h < k = rw e at (I .table .below v l) in
-        good-move h t (b .below) (b .low) (b .high)
-        (omega (arith, size-old G (P .formed) (rows (s .rung)) (s .parts) (movedTo (rows (s .rung)) h t (s .parts)) h (partOf (rows (s .rung)) (s .parts) h) t (all-own h) (all-moved h t) (b .other), I .table .within (partOf (rows (s .rung)) (s .parts) h) lo)) (a .fits) (a .stays)
+        let c = a .candidate in
+        let own = partOf (rows (s .rung)) (s .parts) h in
+        good-move h t (c .below) (c .low) (c .high)
+        (omega (arith, size-old G (P .formed) (rows (s .rung)) (s .parts) (movedTo (rows (s .rung)) h t (s .parts)) h own t (all-own h) (all-moved h t) (c .other), I .table .within own (own-below h (a .stays)))) (a .fits) (a .stays)
 
     pub cut-allowed : (h t : ℕ) → cutAt G s + pull G (rows (s .rung)) (s .parts) h (partOf (rows (s .rung)) (s .parts) h) ≡ cutAt G (step rows (move h t) s) + pull G (rows (s .rung)) (s .parts) h t
     cut-allowed h t = cut-move G (P .formed) (rows (s .rung)) (s .parts) (movedTo (rows (s .rung)) h t (s .parts)) h (partOf (rows (s .rung)) (s .parts) h) t (all-own h) (all-moved h t)
+
+    -- a move that improves lowers the cut where it gains, and the measure in any case
+    module _ (h t : ℕ) (a : Allowed G k bound (rows (s .rung)) (s .parts) h t) (b : Improves G (rows (s .rung)) (s .parts) h t) where
+      pub cut-falls : when (ltZ (pos 0) (gain G rows (move h t) s)) 1 + cutAt G (step rows (move h t) s) ≤ cutAt G s
+      cut-falls = omega (arith, cut-allowed h t, improves-pull G (rows (s .rung)) (s .parts) h t b)
+
+      pub move-falls : measure G k (step rows (move h t) s .parts) < measure G k (s .parts)
+      move-falls =
+          measure-falls G (P .formed) (rows (s .rung)) (s .parts) (movedTo (rows (s .rung)) h t (s .parts)) h (partOf (rows (s .rung)) (s .parts) h) t (all-own h) (all-moved h t) (a .candidate .other) k
+          (own-below h (a .stays)) (a .candidate .below)
+          (either b (λ g. inl (omega (arith, rw g at cut-falls))) (λ x. inr (omega (arith, cut-falls), x .1)))
 
   pub good-down : (s : State) (r : ℕ) → s .rung ≡ suc r → GoodAt G k bound rows top s → GoodAt G k bound rows top (stateOf r (s .parts))
   good-down s r q I =
@@ -186,7 +168,7 @@ module _ (G : Graph) (P : Proper G) (k bound : ℕ) (rows : ℕ → List ℕ) (t
         };
       }
 
-  pub good-step : (e : Entry) (s : State) → GoodAt G k bound rows top s → Admits G bound rows e s → GoodAt G k bound rows top (step rows e s)
+  pub good-step : (e : Entry) (s : State) → GoodAt G k bound rows top s → Admits G k bound rows e s → GoodAt G k bound rows top (step rows e s)
   good-step (move h t) s I a = good-allowed s I h t a
   good-step down s I a = good-down s (s .rung - 1) (omega arith) I
 
@@ -195,19 +177,19 @@ module _ (G : Graph) (P : Proper G) (k bound : ℕ) (rows : ℕ → List ℕ) (t
   cut-step (move h t) s I = signed _ _ _ _ (cut-allowed s I h t)
   cut-step down s I = sym (+ℤ-idr (pos (cutAt G s)))
 
-  pub good-after : (es : List Entry) (s : State) → GoodAt G k bound rows top s → AllAllowed G bound rows es s → (i : ℕ) → GoodAt G k bound rows top (after rows (take i es) s)
+  pub good-after : (es : List Entry) (s : State) → GoodAt G k bound rows top s → AllAllowed G k bound rows es s → (i : ℕ) → GoodAt G k bound rows top (after rows (take i es) s)
   good-after es s I a zero = I
   good-after [] s I a (suc i) = I
   good-after (e ∷ es) s I a (suc i) = good-after es (step rows e s) (good-step e s I (a .0)) (a .1) i
 
-  pub cut-after : (es : List Entry) (s : State) → GoodAt G k bound rows top s → AllAllowed G bound rows es s → (i : ℕ) → i < length es
+  pub cut-after : (es : List Entry) (s : State) → GoodAt G k bound rows top s → AllAllowed G k bound rows es s → (i : ℕ) → i < length es
       → pos (cutAt G (after rows (take i es) s)) ≡ pos (cutAt G (after rows (take (suc i) es) s)) +ℤ gain G rows (getD es i down) (after rows (take i es) s)
   cut-after [] s I a i l = absurd (not-suc-le-zero l)
   cut-after (e ∷ es) s I a zero l = cut-step e s I
   cut-after (e ∷ es) s I a (suc i) l = cut-after es (step rows e s) (good-step e s I (a .0)) (a .1) i (omega arith)
 
   -- the same in total
-  pub cut-total : (es : List Entry) (s : State) → GoodAt G k bound rows top s → AllAllowed G bound rows es s
+  pub cut-total : (es : List Entry) (s : State) → GoodAt G k bound rows top s → AllAllowed G k bound rows es s
       → GoodAt G k bound rows top (after rows es s) × (pos (cutAt G s) ≡ pos (cutAt G (after rows es s)) +ℤ gains G rows es s)
   cut-total [] s I a = (I, sym (+ℤ-idr (pos (cutAt G s))))
   cut-total (e ∷ es) s I a =

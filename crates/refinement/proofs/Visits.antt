@@ -1,4 +1,4 @@
--- A visit takes an allowed candidate of gain above 0, or none.
+-- A visit takes what document 02, a says, and that is one part.
 use Prim.Native.Nat.{ℕ, zero, suc, _+_, _-_, _≤_, _<_, min, max}
 use mathlib.Core.Path.{_≡_, refl, sym, _∙_}
 use mathlib.Core.Bool.{Bool, true, false, not, _&&_}
@@ -12,15 +12,16 @@ use lib.Signed.{ltZ}
 use lib.ListN.{getD}
 use borrow.Author.Tests.{eqb-true, eqb-false, eq-eqb, ne-eqb, ltb-true, ltb-false, leb-true, lt-ltb, le-ltb, le-leb}
 use Rattle.folds.specs.Fold.{pick, turns}
-use Rattle.folds.proofs.Cases.{by, either, eq-or-ne, both, both-i, not-yes, last-or}
+use Rattle.folds.proofs.Cases.{no-bool, by, either, eq-or-ne, both, both-i, one-of, or-l, or-r, not-yes, last-or}
+use Rattle.folds.proofs.Best.{Best, best-to}
 use Rattle.folds.proofs.Searches.{any-i, any-e}
 use Rattle.graph.specs.Graph.{Graph, vertices, edges, via}
 use Rattle.graph.specs.Rows.{clusters}
 use Rattle.graph.specs.Table.{partSize}
-use Rattle.refinement.specs.Move.{movedTo, partOf, leaves, pull, gainTo, Back, Onward, Candidate, Stays, Allowed}
-use Rattle.refinement.specs.Pass.{lowered, raised, lowestNext, aboveBefore, stays, allows, tried, goesBack, target}
-use Rattle.refinement.specs.Own.{Taken}
-use Rattle.refinement.proofs.Signed.{less-gain, above-zero}
+use Rattle.refinement.specs.Move.{movedTo, partOf, leaves, pull, gainTo, Candidate, Stays, Allowed, Gains, Balances, Improves}
+use Rattle.refinement.specs.Pass.{lowered, raised, lowestNext, aboveBefore, stays, allows, isCandidate, improves, target}
+use Rattle.refinement.specs.Own.{GainsMost, EvensOut, Remains, Taken}
+use Rattle.refinement.proofs.Gains.{gain-less, gain-above, zero-gain, gain-zero}
 
 -- the best of s and of f at the numbers below m that have p
 abbrev pub choose : (ℕ → Bool) → (ℕ → ℕ) → (ℕ → ℕ → ℕ) → ℕ → ℕ → ℕ
@@ -53,12 +54,6 @@ module _ (p : ℕ → Bool) (f : ℕ → ℕ) (better : ℕ → ℕ → ℕ) (s 
         b : ℕ
         b = choose p f better s m
 
-pick-case : (a b c : Bool) (t u : ℕ) → (pick (a && (b && c)) t u ≡ u) ⊎ ((pick (a && (b && c)) t u ≡ t) × (a ≡ true) × (b ≡ true) × (c ≡ true))
-pick-case true true true t u = inr (refl, refl, refl, refl)
-pick-case true true false t u = inl refl
-pick-case true false c t u = inl refl
-pick-case false b c t u = inl refl
-
 min-one : (a b : ℕ) → (min a b ≡ a) ⊎ (min a b ≡ b)
 min-one a b = either (eq-or-ne (min a b) a) inl (λ n. inr (omega arith))
 
@@ -85,30 +80,6 @@ module _ (G : Graph) (row parts : List ℕ) (h : ℕ) where
   unfolding lowestNext lowered
   low-of k = best-of (leaves row (G .starts) (G .ends) h) (via parts (G .ends)) min k (λ a b. a ≤ b) (λ a b c x y. omega arith) (λ a b. omega arith) (λ a b. omega arith) (edges G)
 
-  -- the back candidate, as the passes find it
-  back-found : 0 < aboveBefore G row parts h → aboveBefore G row parts h ≤ partOf row parts h → Back G row parts h (aboveBefore G row parts h - 1)
-  back-found some low =
-      record {
-        lower = omega arith;
-        some = either above-is (λ e. absurd (omega arith)) (λ w. (w .0, w .1, w .2, omega (arith, w .3)));
-        highest = λ j l q. omega (arith, above-of j l q);
-      }
-
-  back-is : (t : ℕ) → Back G row parts h t → aboveBefore G row parts h ≡ t + 1
-  back-is t b =
-      let (j, l, q, e) = b .some in
-      either above-is (λ z. absurd (omega (arith, above-of j l q))) (λ w. omega (arith, above-of j l q, b .highest (w .0) (w .1) (w .2), w .3))
-
-  -- and the forward one
-  onward-found : (k : ℕ) → partOf row parts h < lowestNext G k row parts h → lowestNext G k row parts h < k → Onward G row parts h (lowestNext G k row parts h)
-  onward-found k high some =
-      record { higher = high; some = either (low-is k) (λ e. absurd (omega arith)) (λ w. (w .0, w .1, w .2, w .3)); lowest = low-of k }
-
-  onward-is : (k t : ℕ) → t < k → Onward G row parts h t → lowestNext G k row parts h ≡ t
-  onward-is k t lt b =
-      let (j, l, q, e) = b .some in
-      either (low-is k) (λ z. absurd (omega (arith, low-of k j l q))) (λ w. omega (arith, low-of k j l q, b .lowest (w .0) (w .1) (w .2), w .3))
-
   stays-found : stays G row parts h ≡ true → Stays G row parts h
   unfolding stays
   stays-found t =
@@ -121,113 +92,136 @@ module _ (G : Graph) (row parts : List ℕ) (h : ℕ) where
   stays-test (v, l, e, n) =
       any-i (vertices G) (λ i. eqb (getD parts i 0) (partOf row parts h) && not (eqb (getD row i 0) h)) v l (rw (eq-eqb (getD parts v 0) (partOf row parts h) e, ne-eqb (getD row v 0) h n))
 
-  module _ (bound : ℕ) where
-    -- h stays, or goes to an allowed candidate of gain above 0
-    abbrev pub Chosen : ℕ → Type 0
-    Chosen t = (t ≡ partOf row parts h) ⊎ (Allowed G bound row parts h t × (ltZ (pos 0) (gainTo G row parts h t) ≡ true))
+  candidate-found : (k t : ℕ) → t < k → isCandidate G k row parts h t ≡ true → Candidate G k row parts h t
+  unfolding isCandidate
+  candidate-found k t l e =
+      let (z, xy) = both (not (eqb (partOf row parts h) t)) _ e in
+      let (x, y) = both (leb (aboveBefore G row parts h) (t + 1)) _ xy in
+      record {
+        low = λ j lj q. omega (arith, above-of j lj q, leb-true (aboveBefore G row parts h) (t + 1) x);
+        high = λ j lj q. omega (arith, low-of k j lj q, leb-true t (lowestNext G k row parts h) y);
+        below = l;
+        other = eqb-false _ _ (not-yes _ z);
+      }
 
-    pub no-less : (t : ℕ) → Chosen t → pull G row parts h (partOf row parts h) ≤ pull G row parts h t
-    unfolding gainTo
-    no-less t c =
-        let own = pull G row parts h (partOf row parts h) in
-        either c (λ e. rw e (omega arith)) (λ w. omega (arith, ltb-true own (pull G row parts h t) (sym (above-zero (pull G row parts h t) own) ∙ w .1)))
+  candidate-test : (k t : ℕ) → Candidate G k row parts h t → isCandidate G k row parts h t ≡ true
+  unfolding isCandidate
+  candidate-test k t c =
+      let x : aboveBefore G row parts h ≤ t + 1 = either above-is (λ e. omega arith) (λ w. omega (arith, c .low (w .0) (w .1) (w .2), w .3)) in
+      let y : t ≤ lowestNext G k row parts h = either (low-is k) (λ e. omega (arith, c .below)) (λ w. omega (arith, c .high (w .0) (w .1) (w .2), w .3)) in
+      rw (le-leb _ _ x, le-leb _ _ y, ne-eqb _ _ (c .other))
 
-    -- a try leaves the best part so far, or takes an allowed candidate of larger gain
-    tried-case : (candidate : Bool) (t best : ℕ) → (tried G bound row parts h candidate t best ≡ best)
-        ⊎ ((tried G bound row parts h candidate t best ≡ t) × (candidate ≡ true) × (pull G row parts h best < pull G row parts h t) × (allows G bound row parts h t ≡ true))
-    unfolding tried gainTo
-    tried-case candidate t best =
-        either (pick-case candidate (ltZ (gainTo G row parts h best) (gainTo G row parts h t)) (allows G bound row parts h t) t best) inl
-        (λ w. inr (w .0, w .1, ltb-true (pull G row parts h best) (pull G row parts h t) (sym (less-gain (pull G row parts h best) (pull G row parts h t) (pull G row parts h (partOf row parts h))) ∙ w .2), w .3))
+  improves-found : (t : ℕ) → improves G row parts h t ≡ true → Improves G row parts h t
+  unfolding improves
+  improves-found t e =
+      either (one-of (ltZ (pos 0) (gainTo G row parts h t)) _ e) inl
+      (λ x. let (p, q) = both (eqb (pull G row parts h t) (pull G row parts h (partOf row parts h))) _ x in inr (zero-gain G row parts h t (eqb-true _ _ p), ltb-true _ _ q))
 
-    allows-found : (t : ℕ) → allows G bound row parts h t ≡ true → (partSize G (movedTo row h t parts) t ≤ bound) × Stays G row parts h
+  improves-test : (t : ℕ) → Improves G row parts h t → improves G row parts h t ≡ true
+  unfolding improves
+  improves-test t b =
+      either b (or-l (ltZ (pos 0) (gainTo G row parts h t)) _)
+      (λ x. or-r (ltZ (pos 0) (gainTo G row parts h t)) _ (both-i _ _ (eq-eqb _ _ (gain-zero G row parts h t (x .0))) (lt-ltb _ _ (x .1))))
+
+  module _ (k bound : ℕ) (l : h < clusters row) where
+    abbrev choice : ℕ → Bool
+    choice t = isCandidate G k row parts h t && (allows G bound row parts h t && improves G row parts h t)
+
+    choice-found : (t : ℕ) → t < k → choice t ≡ true → Allowed G k bound row parts h t × Improves G row parts h t
     unfolding allows
-    allows-found t e = let (u, v) = both (leb (partSize G (movedTo row h t parts) t) bound) _ e in (leb-true _ _ u, stays-found v)
+    choice-found t lt e =
+        let (x, yz) = both (isCandidate G k row parts h t) _ e in
+        let (y, z) = both (allows G bound row parts h t) _ yz in
+        let (fits, left) = both (leb (partSize G (movedTo row h t parts) t) bound) _ y in
+        (record { cluster = l; candidate = candidate-found k t lt x; fits = leb-true _ _ fits; stays = stays-found left }, improves-found t z)
 
-    tried-chosen : h < clusters row → (candidate : Bool) (t best : ℕ) → (candidate ≡ true → Candidate G row parts h t) → Chosen best → Chosen (tried G bound row parts h candidate t best)
-    unfolding gainTo
-    tried-chosen l candidate t best c old =
-        either (tried-case candidate t best) (λ e. rw e old)
-        (λ (e, x, more, a).
-        let own = pull G row parts h (partOf row parts h) in
-        let (fits, left) = allows-found t a in
-        rw e (inr (record { cluster = l; candidate = c x; fits = fits; stays = left }, above-zero (pull G row parts h t) own ∙ lt-ltb own (pull G row parts h t) (omega (arith, no-less best old)))))
+    choice-test : (t : ℕ) → Allowed G k bound row parts h t → Improves G row parts h t → choice t ≡ true
+    unfolding allows
+    choice-test t a b = rw (candidate-test k t (a .candidate), le-leb _ _ (a .fits), stays-test (a .stays), improves-test t b)
 
-    back-chosen : h < clusters row → Chosen (goesBack G bound row parts h)
-    unfolding goesBack
-    back-chosen l =
-        tried-chosen l (ltb 0 (aboveBefore G row parts h) && leb (aboveBefore G row parts h) (partOf row parts h)) (aboveBefore G row parts h - 1) (partOf row parts h)
-        (λ e. let (x, y) = both (ltb 0 (aboveBefore G row parts h)) _ e in inl (back-found (ltb-true _ _ x) (leb-true _ _ y))) (inl refl)
+    own-out : choice (partOf row parts h) ≡ false
+    unfolding isCandidate
+    own-out = rw (eq-eqb (partOf row parts h) (partOf row parts h) refl)
 
-    pub target-chosen : (k : ℕ) → h < clusters row → Chosen (target G k bound row parts h)
+    abbrev less : ℕ → ℕ → Bool
+    less a b = ltZ (gainTo G row parts h a) (gainTo G row parts h b)
+
+    less-self : (a : ℕ) → less a a ≡ false
+    less-self a = gain-less G row parts h a a ∙ le-ltb (pull G row parts h a) (pull G row parts h a) (omega arith)
+
+    less-mix : (a b c : ℕ) → less a b ≡ false → less a c ≡ true → (less b c ≡ true) × (less c b ≡ false)
+    less-mix a b c x y =
+        let p = ltb-false (pull G row parts h a) (pull G row parts h b) (sym (gain-less G row parts h a b) ∙ x) in
+        let q = ltb-true (pull G row parts h a) (pull G row parts h c) (sym (gain-less G row parts h a c) ∙ y) in
+        (gain-less G row parts h b c ∙ lt-ltb (pull G row parts h b) (pull G row parts h c) (omega arith), gain-less G row parts h c b ∙ le-ltb (pull G row parts h c) (pull G row parts h b) (omega arith))
+
+    -- h stays where nothing improves, or goes to the best that does
+    target-is : ((target G k bound row parts h ≡ partOf row parts h) × ((u : ℕ) → u < k → choice u ≡ false)) ⊎ Best k choice less (target G k bound row parts h)
     unfolding target
-    target-chosen k l =
-        tried-chosen l (ltb (partOf row parts h) (lowestNext G k row parts h) && ltb (lowestNext G k row parts h) k) (lowestNext G k row parts h) (goesBack G bound row parts h)
-        (λ e. let (x, y) = both (ltb (partOf row parts h) (lowestNext G k row parts h)) _ e in inr (onward-found k (ltb-true _ _ x) (ltb-true _ _ y))) (back-chosen l)
+    target-is = best-to choice less (partOf row parts h) own-out less-self less-mix k
 
-    allows-test : (t : ℕ) → Allowed G bound row parts h t → allows G bound row parts h t ≡ true
-    unfolding allows
-    allows-test t a = both-i (leb (partSize G (movedTo row h t parts) t) bound) (stays G row parts h) (le-leb _ _ (a .fits)) (stays-test (a .stays))
+    pub target-improves : (target G k bound row parts h ≡ partOf row parts h)
+        ⊎ (Allowed G k bound row parts h (target G k bound row parts h) × Improves G row parts h (target G k bound row parts h))
+    target-improves = either target-is (λ w. inl (w .0)) (λ w. inr (choice-found _ (w .below) (w .has)))
 
-    tried-keeps : (candidate : Bool) (t best : ℕ) → pull G row parts h best ≤ pull G row parts h (tried G bound row parts h candidate t best)
-    tried-keeps candidate t best = either (tried-case candidate t best) (λ e. rw e (omega arith)) (λ w. rw (w .0) (omega (arith, w .2)))
+    -- the same in widths
+    above : (u : ℕ) → Gains G row parts h u → pull G row parts h (partOf row parts h) < pull G row parts h u
+    above u g = ltb-true _ _ (sym (gain-above G row parts h u) ∙ g)
 
-    -- an allowed candidate has no larger gain than what the try gives
-    tried-no-less : (candidate : Bool) (t best : ℕ) → candidate ≡ true → allows G bound row parts h t ≡ true → pull G row parts h t ≤ pull G row parts h (tried G bound row parts h candidate t best)
-    unfolding tried gainTo
-    tried-no-less candidate t best c a =
-        let own = pull G row parts h (partOf row parts h) in
-        rw (c, a, less-gain (pull G row parts h best) (pull G row parts h t) own)
-        (by (ltb (pull G row parts h best) (pull G row parts h t)) (λ e. rw e (omega arith)) (λ e. let l = ltb-false (pull G row parts h best) (pull G row parts h t) e in rw e (omega arith)))
+    not-above : (u : ℕ) → ltZ (pos 0) (gainTo G row parts h u) ≡ false → pull G row parts h u ≤ pull G row parts h (partOf row parts h)
+    not-above u e = ltb-false (pull G row parts h (partOf row parts h)) _ (sym (gain-above G row parts h u) ∙ e)
 
-    back-no-less : (u : ℕ) → Allowed G bound row parts h u → Back G row parts h u → pull G row parts h u ≤ pull G row parts h (goesBack G bound row parts h)
-    unfolding goesBack
-    back-no-less u a b =
-        let e = back-is u b in
-        let q : aboveBefore G row parts h - 1 ≡ u = omega arith in
-        let some : 0 < aboveBefore G row parts h = omega arith in
-        let low : aboveBefore G row parts h ≤ partOf row parts h = omega (arith, b .lower) in
-        let t = tried-no-less (ltb 0 (aboveBefore G row parts h) && leb (aboveBefore G row parts h) (partOf row parts h)) u (partOf row parts h)
-        (both-i (ltb 0 (aboveBefore G row parts h)) _ (lt-ltb _ _ some) (le-leb _ _ low)) (allows-test u a) in
-        rw q t
+    smaller : (a b : ℕ) → pull G row parts h a < pull G row parts h b → less a b ≡ true
+    smaller a b q = gain-less G row parts h a b ∙ lt-ltb (pull G row parts h a) (pull G row parts h b) q
 
-    back-low : goesBack G bound row parts h ≤ partOf row parts h
-    unfolding goesBack
-    back-low =
-        either (tried-case (ltb 0 (aboveBefore G row parts h) && leb (aboveBefore G row parts h) (partOf row parts h)) (aboveBefore G row parts h - 1) (partOf row parts h))
-        (λ e. omega arith)
-        (λ w. omega (arith, w .0, leb-true (aboveBefore G row parts h) (partOf row parts h) (both (ltb 0 (aboveBefore G row parts h)) _ (w .1) .1)))
+    no-smaller : (a b : ℕ) → pull G row parts h b ≤ pull G row parts h a → less a b ≡ false
+    no-smaller a b q = gain-less G row parts h a b ∙ le-ltb (pull G row parts h a) (pull G row parts h b) q
 
-    module _ (k : ℕ) (l : h < clusters row) (below : (u : ℕ) → Onward G row parts h u → u < k) where
-      no-more : (u : ℕ) → Allowed G bound row parts h u → pull G row parts h u ≤ pull G row parts h (target G k bound row parts h)
-      unfolding target
-      no-more u a =
-          either (a .candidate)
-          (λ b. omega (arith, back-no-less u a b, tried-keeps (ltb (partOf row parts h) (lowestNext G k row parts h) && ltb (lowestNext G k row parts h) k) (lowestNext G k row parts h) (goesBack G bound row parts h)))
-          (λ b.
-          let e = onward-is k u (below u b) b in
-          let t = tried-no-less (ltb (partOf row parts h) u && ltb u k) u (goesBack G bound row parts h)
-          (both-i (ltb (partOf row parts h) u) (ltb u k) (lt-ltb _ _ (b .higher)) (lt-ltb _ _ (below u b))) (allows-test u a) in
-          rw e t)
-
-      onward-more : Onward G row parts h (target G k bound row parts h) → pull G row parts h (goesBack G bound row parts h) < pull G row parts h (target G k bound row parts h)
-      unfolding target
-      onward-more o =
-          either (tried-case (ltb (partOf row parts h) (lowestNext G k row parts h) && ltb (lowestNext G k row parts h) k) (lowestNext G k row parts h) (goesBack G bound row parts h))
-          (λ e. absurd (omega (arith, o .higher, back-low))) (λ w. rw (w .0) (w .2))
-
-      -- a visit takes what document 01 says
-      pub target-taken : Taken G bound row parts h (target G k bound row parts h)
-      unfolding gainTo
-      target-taken =
+    module _ {t : ℕ} (w : Best k choice less t) (a : Allowed G k bound row parts h t) where
+      most-taken : Gains G row parts h t → GainsMost G k bound row parts h t
+      most-taken g =
           record {
-            gains = target-chosen k l;
-            largest = λ u a. less-gain t (pull G row parts h u) own ∙ le-ltb t (pull G row parts h u) (no-more u a);
-            back = λ u a b o. less-gain (pull G row parts h u) t own ∙ lt-ltb (pull G row parts h u) t (omega (arith, back-no-less u a b, onward-more o));
+            allowed = a;
+            above = g;
+            largest = λ u b.
+                by (ltZ (pos 0) (gainTo G row parts h u)) (λ e. w .largest u (b .candidate .below) (choice-test u b (inl e))) (λ e. no-smaller t u (omega (arith, above t g, not-above u e)));
+            lowest = λ u b lu.
+                by (ltZ (pos 0) (gainTo G row parts h u)) (λ e. w .lowest u lu (choice-test u b (inl e))) (λ e. smaller u t (omega (arith, above t g, not-above u e)));
           }
-        where
-          t : ℕ
-          t = pull G row parts h (target G k bound row parts h)
 
-          own : ℕ
-          own = pull G row parts h (partOf row parts h)
+      even-taken : Balances G row parts h t → EvensOut G k bound row parts h t
+      even-taken x =
+          record {
+            none = λ u b g. no-bool (sym (w .largest u (b .candidate .below) (choice-test u b (inl g))) ∙ smaller t u (omega (arith, above u g, gain-zero G row parts h t (x .0))));
+            allowed = a;
+            balances = x;
+            lowest = λ u b y.
+                by (ltb u t)
+                (λ e. absurd (no-bool (sym (no-smaller u t (omega (arith, gain-zero G row parts h t (x .0), gain-zero G row parts h u (y .0)))) ∙ w .lowest u (ltb-true u t e) (choice-test u b (inr y)))))
+                (ltb-false u t);
+          }
+
+    -- a visit takes what document 02 says
+    pub target-taken : Taken G k bound row parts h (target G k bound row parts h)
+    target-taken =
+        either target-is
+        (λ (e, z).
+        let no : (u : ℕ) → Allowed G k bound row parts h u → Improves G row parts h u → ⊥ = λ u a b. no-bool (sym (z u (a .candidate .below)) ∙ choice-test u a b) in
+        inr (inr (record { own = e; none = λ u a g. no u a (inl g); none-balances = λ u a b. no u a (inr b) })))
+        (λ w. let (a, b) = choice-found _ (w .below) (w .has) in either b (λ g. inl (most-taken w a g)) (λ x. inr (inl (even-taken w a x))))
+
+  -- and that is one part
+  module _ {k bound : ℕ} where
+    most-low : {t u : ℕ} → GainsMost G k bound row parts h t → GainsMost G k bound row parts h u → t ≤ u
+    most-low {t} {u} x y = by (ltb u t) (λ e. absurd (no-bool (sym (y .largest t (x .allowed)) ∙ x .lowest u (y .allowed) (ltb-true u t e)))) (ltb-false u t)
+
+    pub taken-one : (t u : ℕ) → Taken G k bound row parts h t → Taken G k bound row parts h u → t ≡ u
+    taken-one t u (inl x) (inl y) = omega (arith, most-low x y, most-low y x)
+    taken-one t u (inl x) (inr (inl y)) = absurd (y .none t (x .allowed) (x .above))
+    taken-one t u (inl x) (inr (inr y)) = absurd (y .none t (x .allowed) (x .above))
+    taken-one t u (inr (inl x)) (inl y) = absurd (x .none u (y .allowed) (y .above))
+    taken-one t u (inr (inl x)) (inr (inl y)) = omega (arith, x .lowest u (y .allowed) (y .balances), y .lowest t (x .allowed) (x .balances))
+    taken-one t u (inr (inl x)) (inr (inr y)) = absurd (y .none-balances t (x .allowed) (x .balances))
+    taken-one t u (inr (inr x)) (inl y) = absurd (x .none u (y .allowed) (y .above))
+    taken-one t u (inr (inr x)) (inr (inl y)) = absurd (x .none-balances u (y .allowed) (y .balances))
+    taken-one t u (inr (inr x)) (inr (inr y)) = x .own ∙ sym (y .own)

@@ -1,14 +1,13 @@
 -- Lists of moves down the rungs, whoever picked them (document 01, "The words of demand 3").
 use Prim.Native.Nat.{ℕ, suc, _+_, _-_, _≤_, _<_}
 use mathlib.Core.Path.{_≡_}
-use mathlib.Core.Bool.{true}
 use mathlib.Core.List.{List, [], _∷_}
 use lib.IntN.{ℤ, pos, _+ℤ_}
 use lib.Signed.{ltZ}
 use Rattle.folds.specs.Fold.{when}
 use Rattle.graph.specs.Graph.{Graph, cutOf}
 use Rattle.graph.specs.Table.{Good}
-use Rattle.refinement.specs.Move.{movedTo, gainTo, Allowed}
+use Rattle.refinement.specs.Move.{movedTo, gainTo, Allowed, Improves}
 
 -- the rung at hand, and each vertex's part
 pub record State : Type 0 where
@@ -33,13 +32,13 @@ after rows [] s = s
 after rows (e ∷ es) s = after rows es (step rows e s)
 
 -- an entry as the table then stands, whatever its gain
-abbrev pub Admits : Graph → ℕ → (ℕ → List ℕ) → Entry → State → Type 0
-Admits G bound rows (move h t) s = Allowed G bound (rows (s .rung)) (s .parts) h t
-Admits G bound rows down s = 0 < s .rung
+abbrev pub Admits : Graph → ℕ → ℕ → (ℕ → List ℕ) → Entry → State → Type 0
+Admits G k bound rows (move h t) s = Allowed G k bound (rows (s .rung)) (s .parts) h t
+Admits G k bound rows down s = 0 < s .rung
 
-abbrev pub AllAllowed : Graph → ℕ → (ℕ → List ℕ) → List Entry → State → Type 0
-AllAllowed G bound rows [] s = Unit {0}
-AllAllowed G bound rows (e ∷ es) s = Admits G bound rows e s × AllAllowed G bound rows es (step rows e s)
+abbrev pub AllAllowed : Graph → ℕ → ℕ → (ℕ → List ℕ) → List Entry → State → Type 0
+AllAllowed G k bound rows [] s = Unit {0}
+AllAllowed G k bound rows (e ∷ es) s = Admits G k bound rows e s × AllAllowed G k bound rows es (step rows e s)
 
 -- the cut of a state, and an entry's gain
 abbrev pub cutAt : Graph → State → ℕ
@@ -63,14 +62,14 @@ downs [] = 0
 downs (move h t ∷ es) = downs es
 downs (down ∷ es) = suc (downs es)
 
--- each move gains
-abbrev pub Gains : Graph → (ℕ → List ℕ) → Entry → State → Type 0
-Gains G rows (move h t) s = ltZ (pos 0) (gainTo G (rows (s .rung)) (s .parts) h t) ≡ true
-Gains G rows down s = Unit {0}
+-- each move gains, or evens out at the same cut
+abbrev pub Betters : Graph → (ℕ → List ℕ) → Entry → State → Type 0
+Betters G rows (move h t) s = Improves G (rows (s .rung)) (s .parts) h t
+Betters G rows down s = Unit {0}
 
-abbrev pub AllGain : Graph → (ℕ → List ℕ) → List Entry → State → Type 0
-AllGain G rows [] s = Unit {0}
-AllGain G rows (e ∷ es) s = Gains G rows e s × AllGain G rows es (step rows e s)
+abbrev pub AllImprove : Graph → (ℕ → List ℕ) → List Entry → State → Type 0
+AllImprove G rows [] s = Unit {0}
+AllImprove G rows (e ∷ es) s = Betters G rows e s × AllImprove G rows es (step rows e s)
 
 -- what holds at the first cut and after each entry of a list: a kept rung, and a table that is good on its row
 pub record GoodAt (G : Graph) (k bound : ℕ) (rows : ℕ → List ℕ) (top : ℕ) (s : State) : Type 0 where

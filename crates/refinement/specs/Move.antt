@@ -1,14 +1,15 @@
--- One move of a cluster: what its edges weigh, the gain, the candidates and what is allowed (document 01, "Moves").
-use Prim.Native.Nat.{ℕ, _+_, _≤_, _<_}
+-- One move of a cluster: what its edges weigh, the gain, the candidates, what is allowed and what improves (document 01, "Moves"; document 02, a).
+use Prim.Native.Nat.{ℕ, _+_, _≤_, _<_, max}
 use mathlib.Core.Path.{_≡_}
 use mathlib.Core.Bool.{Bool, true, not, _&&_}
 use mathlib.Core.Logic.{_⊎_}
 use mathlib.Core.List.{List}
 use lib.Dec.{eqb}
 use lib.IntN.{ℤ, pos, _-ℤ_}
+use lib.Signed.{ltZ}
 use lib.ListN.{length, getD}
 use Rattle.folds.specs.Fold.{pick, when, sumTo, firstTo, listTo}
-use Rattle.graph.specs.Graph.{Graph, vertices, edges, via}
+use Rattle.graph.specs.Graph.{Graph, vertices, edges, via, partCost}
 use Rattle.graph.specs.Rows.{clusters}
 use Rattle.graph.specs.Table.{partSize}
 
@@ -37,28 +38,40 @@ pull G row parts h u =
 unfoldable pub gainTo : Graph → List ℕ → List ℕ → ℕ → ℕ → ℤ
 gainTo G row parts h t = pos (pull G row parts h t) -ℤ pos (pull G row parts h (partOf row parts h))
 
--- document 01: the back candidate is the highest stage among the senders, if below the group's own
-pub record Back (G : Graph) (row parts : List ℕ) (h t : ℕ) : Type 0 where
-  pub lower : t < partOf row parts h
-  pub some : (j : ℕ) × (j < edges G) × (leaves row (G .ends) (G .starts) h j ≡ true) × (via parts (G .starts) j ≡ t)
-  pub highest : (j : ℕ) → j < edges G → leaves row (G .ends) (G .starts) h j ≡ true → via parts (G .starts) j ≤ t
-
--- document 01: the forward candidate is the lowest stage among the receivers, if above its own
-pub record Onward (G : Graph) (row parts : List ℕ) (h t : ℕ) : Type 0 where
-  pub higher : partOf row parts h < t
-  pub some : (j : ℕ) × (j < edges G) × (leaves row (G .starts) (G .ends) h j ≡ true) × (via parts (G .ends) j ≡ t)
-  pub lowest : (j : ℕ) → j < edges G → leaves row (G .starts) (G .ends) h j ≡ true → t ≤ via parts (G .ends) j
-
-abbrev pub Candidate : Graph → List ℕ → List ℕ → ℕ → ℕ → Type 0
-Candidate G row parts h t = Back G row parts h t ⊎ Onward G row parts h t
+-- document 02, a: every part from the highest of the predecessors (0 if there is none) to the lowest of the successors (k - 1 if there is none), other
+-- than the cluster's own
+pub record Candidate (G : Graph) (k : ℕ) (row parts : List ℕ) (h t : ℕ) : Type 0 where
+  pub low : (j : ℕ) → j < edges G → leaves row (G .ends) (G .starts) h j ≡ true → via parts (G .starts) j ≤ t
+  pub high : (j : ℕ) → j < edges G → leaves row (G .starts) (G .ends) h j ≡ true → t ≤ via parts (G .ends) j
+  pub below : t < k
+  pub other : partOf row parts h ≡ t → ⊥
 
 -- some vertex lies in the part of cluster h, outside h
 abbrev pub Stays : Graph → List ℕ → List ℕ → ℕ → Type 0
 Stays G row parts h = (v : ℕ) × (v < vertices G) × (getD parts v 0 ≡ partOf row parts h) × (getD row v 0 ≡ h → ⊥)
 
 -- h is a cluster of the row and t a candidate of it; the new part stays within the bound, and the old one is not emptied
-pub record Allowed (G : Graph) (bound : ℕ) (row parts : List ℕ) (h t : ℕ) : Type 0 where
+pub record Allowed (G : Graph) (k bound : ℕ) (row parts : List ℕ) (h t : ℕ) : Type 0 where
   pub cluster : h < clusters row
-  pub candidate : Candidate G row parts h t
+  pub candidate : Candidate G k row parts h t
   pub fits : partSize G (movedTo row h t parts) t ≤ bound
   pub stays : Stays G row parts h
+
+-- the larger cost of two parts
+unfoldable pub largerCost : Graph → List ℕ → ℕ → ℕ → ℕ
+largerCost G parts s t = max (partCost (G .costs) parts s) (partCost (G .costs) parts t)
+
+-- document 02, a: by the move of h to t the larger cost of the two parts touched becomes smaller
+abbrev pub Evens : Graph → List ℕ → List ℕ → ℕ → ℕ → Type 0
+Evens G row parts h t =
+    largerCost G (movedTo row h t parts) (partOf row parts h) t < largerCost G parts (partOf row parts h) t
+
+-- the two kinds of moves that a pass makes: a gain above 0, or a gain of 0 that evens
+abbrev pub Gains : Graph → List ℕ → List ℕ → ℕ → ℕ → Type 0
+Gains G row parts h t = ltZ (pos 0) (gainTo G row parts h t) ≡ true
+
+abbrev pub Balances : Graph → List ℕ → List ℕ → ℕ → ℕ → Type 0
+Balances G row parts h t = (gainTo G row parts h t ≡ pos 0) × Evens G row parts h t
+
+abbrev pub Improves : Graph → List ℕ → List ℕ → ℕ → ℕ → Type 0
+Improves G row parts h t = Gains G row parts h t ⊎ Balances G row parts h t

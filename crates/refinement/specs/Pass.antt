@@ -1,15 +1,16 @@
--- The passes: what a visit of a cluster does, a pass, passes until one moves nothing, and down the rungs (document 01, "Moves").
-use Prim.Native.Nat.{ℕ, zero, suc, _+_, _-_, min, max}
-use mathlib.Core.Bool.{Bool, true, false, not, _&&_}
+-- The passes: what a visit of a cluster does, a pass, passes until one moves nothing, and down the rungs (document 01, "Moves"; document 02, a).
+use Prim.Native.Nat.{ℕ, zero, suc, _+_, _*_, min, max}
+use mathlib.Core.Bool.{Bool, true, false, not, _&&_, _||_}
 use mathlib.Core.List.{List}
 use lib.Dec.{eqb, ltb, leb}
+use lib.IntN.{pos}
 use lib.Signed.{ltZ}
 use lib.ListN.{getD}
-use Rattle.folds.specs.Fold.{pick, anyTo, turns}
-use Rattle.graph.specs.Graph.{Graph, vertices, edges, via, cutOf}
+use Rattle.folds.specs.Fold.{pick, when, sumTo, anyTo, turns, bestTo}
+use Rattle.graph.specs.Graph.{Graph, vertices, edges, via, cutOf, partCost}
 use Rattle.graph.specs.Rows.{clusters}
 use Rattle.graph.specs.Table.{partSize}
-use Rattle.refinement.specs.Move.{movedTo, partOf, leaves, gainTo}
+use Rattle.refinement.specs.Move.{movedTo, partOf, leaves, pull, gainTo, largerCost}
 
 -- s, and the part at the far end of edge j where that edge leaves h
 unfoldable pub lowered : List ℕ → List ℕ → List ℕ → List ℕ → ℕ → ℕ → ℕ → ℕ
@@ -33,23 +34,25 @@ stays G row parts h = anyTo (vertices G) (λ v. eqb (getD parts v 0) (partOf row
 unfoldable pub allows : Graph → ℕ → List ℕ → List ℕ → ℕ → ℕ → Bool
 allows G bound row parts h t = leb (partSize G (movedTo row h t parts) t) bound && stays G row parts h
 
--- part t in place of the best so far, where it is a candidate, its gain is larger and it is allowed
-unfoldable pub tried : Graph → ℕ → List ℕ → List ℕ → ℕ → Bool → ℕ → ℕ → ℕ
-tried G bound row parts h candidate t best =
-    pick (candidate && (ltZ (gainTo G row parts h best) (gainTo G row parts h t) && allows G bound row parts h t)) t best
+-- t, below k, is a candidate of h
+unfoldable pub isCandidate : Graph → ℕ → List ℕ → List ℕ → ℕ → ℕ → Bool
+isCandidate G k row parts h t =
+    not (eqb (partOf row parts h) t) && (leb (aboveBefore G row parts h) (t + 1) && leb t (lowestNext G k row parts h))
 
--- where h goes: its own part, whose gain is 0, then the back and then the forward candidate are tried, so that equal gains go back
-unfoldable pub goesBack : Graph → ℕ → List ℕ → List ℕ → ℕ → ℕ
-goesBack G bound row parts h =
+-- a gain above 0, or a gain of 0 by which the larger cost of the two parts falls
+unfoldable pub improves : Graph → List ℕ → List ℕ → ℕ → ℕ → Bool
+improves G row parts h t =
     let own = partOf row parts h in
-    let above = aboveBefore G row parts h in tried G bound row parts h (ltb 0 above && leb above own) (above - 1) own
+    ltZ (pos 0) (gainTo G row parts h t)
+    || (eqb (pull G row parts h t) (pull G row parts h own) && ltb (largerCost G (movedTo row h t parts) own t) (largerCost G parts own t))
 
+-- where h goes: of the allowed candidates that improve the largest gain wins, ties to the lowest part (law `visit-takes`: this is what document 02, a says)
 unfoldable pub target : Graph → ℕ → ℕ → List ℕ → List ℕ → ℕ → ℕ
 target G k bound row parts h =
-    let low = lowestNext G k row parts h in
-    tried G bound row parts h (ltb (partOf row parts h) low && ltb low k) low (goesBack G bound row parts h)
+    bestTo k (λ t. isCandidate G k row parts h t && (allows G bound row parts h t && improves G row parts h t))
+    (λ a b. ltZ (gainTo G row parts h a) (gainTo G row parts h b)) (partOf row parts h)
 
--- a table, the moves counted so far, and whether the pass at hand has moved something
+-- a table, the moves of gain above 0 so far, and whether the pass at hand has moved something
 pub record Tally : Type 0 where
   pub parts : List ℕ
   pub moves : ℕ
@@ -60,24 +63,32 @@ abbrev pub tallyOf : List ℕ → ℕ → Tally
 tallyOf parts moves = record { parts = parts; moves = moves; moved = false }
 
 -- a visit of cluster h
-unfoldable pub settledAt : List ℕ → ℕ → ℕ → Tally → Tally
-settledAt row h t s =
-    pick (eqb t (partOf row (s .parts) h)) s (record { parts = movedTo row h t (s .parts); moves = s .moves + 1; moved = true })
+unfoldable pub settledAt : Graph → List ℕ → ℕ → ℕ → Tally → Tally
+settledAt G row h t s =
+    pick (eqb t (partOf row (s .parts) h)) s
+    (record { parts = movedTo row h t (s .parts); moves = s .moves + when (ltZ (pos 0) (gainTo G row (s .parts) h t)) 1; moved = true })
 
 unfoldable pub visited : Graph → ℕ → ℕ → List ℕ → ℕ → Tally → Tally
-visited G k bound row h s = settledAt row h (target G k bound row (s .parts) h) s
+visited G k bound row h s = settledAt G row h (target G k bound row (s .parts) h) s
 
 -- document 01: a pass visits groups in number order
 unfoldable pub passOf : Graph → ℕ → ℕ → List ℕ → Tally → Tally
 passOf G k bound row s = turns (clusters row) (visited G k bound row) (tallyOf (s .parts) (s .moves))
 
--- what each move lowers, and so how many passes can move something: today the cut
-unfoldable pub measure : Graph → List ℕ → ℕ
-measure G parts = cutOf G parts
+-- the sum of the squares of the parts' costs, which evening out lowers, and a bound of it
+unfoldable pub spread : Graph → ℕ → List ℕ → ℕ
+spread G k parts = sumTo k (λ u. partCost (G .costs) parts u * partCost (G .costs) parts u)
+
+unfoldable pub mostSpread : Graph → ℕ → ℕ
+mostSpread G k = let all = sumTo (vertices G) (λ v. getD (G .costs) v 0) in k * (all * all)
+
+-- what each move lowers: the cut, or at the same cut the spread
+unfoldable pub measure : Graph → ℕ → List ℕ → ℕ
+measure G k parts = cutOf G parts * suc (mostSpread G k) + spread G k parts
 
 -- the most passes that there can be: each but the last moves something
-unfoldable pub passes : Graph → List ℕ → ℕ
-passes G parts = suc (measure G parts)
+unfoldable pub passes : Graph → ℕ → List ℕ → ℕ
+passes G k parts = suc (measure G k parts)
 
 -- document 01: passes repeat until one moves nothing (law `passes-end`: the fuel suffices)
 unfoldable pub repeated : Graph → ℕ → ℕ → List ℕ → ℕ → Tally → Tally
@@ -86,7 +97,7 @@ repeated G k bound row (suc fuel) s =
     let next = repeated G k bound row fuel (passOf G k bound row s) in pick (passOf G k bound row s .moved) next (passOf G k bound row s)
 
 unfoldable pub refinedOn : Graph → ℕ → ℕ → List ℕ → Tally → Tally
-refinedOn G k bound row s = repeated G k bound row (passes G (s .parts)) s
+refinedOn G k bound row s = repeated G k bound row (passes G k (s .parts)) s
 
 -- on rung r - 1 and then on each lower one
 unfoldable pub refinedBelow : Graph → ℕ → ℕ → (ℕ → List ℕ) → ℕ → Tally → Tally

@@ -105,7 +105,7 @@ fn read_and_run() {
 fn main() {
     if os::arg_count() > 1 {
         console::say(
-            b"usage: split < KITFILE\nReads a kit text on standard input and prints each block's stage.\n",
+            b"usage: split < KITFILE\nReads a kit text on standard input. Prints the cut, the rounds kept (rungs), the rung that was cut (cutat) and the moves that lowered\nthe cut (moves; those that only even out stages are not counted), then each block's stage.\n",
         );
         return;
     }

@@ -190,4 +190,28 @@ starred =
       rows = [];
       first = [];
     }
+    -- document 02, a: no wires. Stage 0 begins with 3 and gives block 1 to stage 1, the lowest of two that it evens with
+    ∷ record {
+      graph = graphOf (2 ∷ 1 ∷ 2 ∷ 1 ∷ []) [] [] [];
+      parts = 3;
+      bound = 3;
+      asked = split;
+      number = 0;
+      values = 0 ∷ 0 ∷ 0 ∷ 0 ∷ [];
+      written = 0 ∷ 1 ∷ 2 ∷ 1 ∷ [];
+      rows = (0 ∷ 1 ∷ 2 ∷ 3 ∷ []) ∷ [];
+      first = [];
+    }
+    -- document 02, a: a move that evens keeps the passes going
+    ∷ record {
+      graph = graphOf (1 ∷ 3 ∷ 2 ∷ []) [] [] [];
+      parts = 2;
+      bound = 5;
+      asked = split;
+      number = 0;
+      values = 0 ∷ 0 ∷ 0 ∷ 0 ∷ [];
+      written = 1 ∷ 0 ∷ 1 ∷ [];
+      rows = (0 ∷ 1 ∷ 2 ∷ []) ∷ [];
+      first = [];
+    }
     ∷ []

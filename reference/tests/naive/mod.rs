@@ -1,4 +1,4 @@
-//! Document 01 written down as directly as possible, with no regard for speed.
+//! Document 01, with the moves of document 02 a, written down as directly as possible, with no regard for speed.
 
 use reference::Refusal;
 use std::collections::BTreeMap;
@@ -124,33 +124,71 @@ impl Rung {
         lists.iter().map(stages).filter(within).collect()
     }
 
-    /// The move that the paper takes for this group, with its gain.
-    pub fn step(&self, stage: &[usize], g: usize, limit: u64) -> Option<(usize, i64)> {
+    /// Every stage from the highest of the senders (0 if none) to the lowest of the receivers (k - 1 if none),
+    /// other than the group's own.
+    pub fn candidates(&self, stage: &[usize], g: usize, k: usize) -> Vec<usize> {
         let n = self.costs.len();
-        let own = stage[g];
-        let back = (0..n).filter(|&s| self.wire(s, g)).map(|s| stage[s]).max();
-        let ahead = (0..n).filter(|&r| self.wire(g, r)).map(|r| stage[r]).min();
-        let mut candidates: Vec<usize> = back.into_iter().filter(|&s| s < own).collect();
-        candidates.extend(ahead.filter(|&s| s > own));
-        candidates.retain(|&s| {
-            stage_cost(self, stage, s) + self.costs[g] <= limit
-                && (0..n).any(|other| other != g && stage[other] == own)
-        });
-        let gain = |to: usize| {
-            let mut moved = stage.to_vec();
-            moved[g] = to;
-            widths_between(self, stage) as i64 - widths_between(self, &moved) as i64
+        let lowest = (0..n).filter(|&s| self.wire(s, g)).map(|s| stage[s]).max().unwrap_or(0);
+        let highest = (0..n).filter(|&r| self.wire(g, r)).map(|r| stage[r]).min().unwrap_or(k - 1);
+        (lowest..=highest).filter(|&s| s != stage[g]).collect()
+    }
+
+    /// The new stage stays within the limit, and the old one is not emptied.
+    pub fn allowed(&self, stage: &[usize], g: usize, to: usize, limit: u64) -> bool {
+        stage_cost(self, stage, to) + self.costs[g] <= limit
+            && (0..stage.len()).any(|other| other != g && stage[other] == stage[g])
+    }
+
+    /// The width of wires to or from groups of the new stage, less that to or from others of its own.
+    pub fn gain(&self, stage: &[usize], g: usize, to: usize) -> i64 {
+        let width_to = |s: usize| {
+            let other = |u: usize, v: usize| if u == g { v } else { u };
+            let wires = self.wires.iter().filter(|((u, v), _)| *u == g || *v == g);
+            wires.filter(|((u, v), _)| stage[other(*u, *v)] == s).map(|(_, &width)| width as i64).sum::<i64>()
         };
-        let gains: Vec<(usize, i64)> = candidates.into_iter().map(|to| (to, gain(to))).collect();
-        let best = gains.iter().map(|&(_, gain)| gain).max()?;
-        gains.into_iter().find(|&(_, gain)| gain == best && gain > 0)
+        width_to(to) - width_to(stage[g])
+    }
+
+    /// The larger cost of the two stages touched becomes smaller.
+    pub fn evens(&self, stage: &[usize], g: usize, to: usize) -> bool {
+        let larger = |table: &[usize]| stage_cost(self, table, stage[g]).max(stage_cost(self, table, to));
+        larger(&moved(stage, g, to)) < larger(stage)
+    }
+
+    /// The move that a visit makes, with its gain: the two sentences of request a, one after the other.
+    pub fn step(&self, stage: &[usize], g: usize, k: usize, limit: u64) -> Option<(usize, i64)> {
+        let mut candidates = self.candidates(stage, g, k);
+        candidates.retain(|&to| self.allowed(stage, g, to, limit));
+        let gain = |to: usize| self.gain(stage, g, to);
+        let most = candidates.iter().map(|&to| gain(to)).max()?;
+        if most > 0 {
+            return candidates.into_iter().find(|&to| gain(to) == most).map(|to| (to, most));
+        }
+        candidates.into_iter().find(|&to| gain(to) == 0 && self.evens(stage, g, to)).map(|to| (to, 0))
     }
 }
 
+/// The table after a group's move.
+pub fn moved(stage: &[usize], g: usize, to: usize) -> Vec<usize> {
+    let mut table = stage.to_vec();
+    table[g] = to;
+    table
+}
+
 pub struct Answer {
-    /// Cut, rounds kept, rung cut, moves, and the stages; None for a 9.
-    pub split: Option<(u64, usize, usize, usize, Vec<usize>)>,
+    /// None for a 9.
+    pub split: Option<Split>,
     pub rows: Vec<Vec<usize>>,
+}
+
+pub struct Split {
+    pub cut: u64,
+    pub rounds: usize,
+    pub rung: usize,
+    /// Moves of gain above 0, which alone are answered, and those of gain 0.
+    pub moves: usize,
+    pub evened: usize,
+    pub stages: Vec<usize>,
 }
 
 /// The split of a sound kit.
@@ -185,15 +223,13 @@ pub fn split(blocks: &Rung, k: usize, limit: u64) -> Answer {
     Answer { split, rows }
 }
 
-type Whole = (u64, usize, usize, usize, Vec<usize>);
-
-fn first_and_moves(blocks: &Rung, rows: &[Vec<usize>], at: usize, k: usize, limit: u64) -> Option<Whole> {
+fn first_and_moves(blocks: &Rung, rows: &[Vec<usize>], at: usize, k: usize, limit: u64) -> Option<Split> {
     let rung = blocks.joined(&rows[at]);
     let divisions = rung.divisions(k, limit);
     // min_by_key takes the first among equals.
     let stage = divisions.iter().min_by_key(|stage| widths_between(&rung, stage))?;
     let mut stage_of_block: Vec<usize> = rows[at].iter().map(|&g| stage[g]).collect();
-    let mut moves = 0;
+    let (mut moves, mut evened) = (0, 0);
     for row in rows[..=at].iter().rev() {
         let rung = blocks.joined(row);
         let block = |g: usize| row.iter().position(|&other| other == g).unwrap();
@@ -202,9 +238,10 @@ fn first_and_moves(blocks: &Rung, rows: &[Vec<usize>], at: usize, k: usize, limi
         while moved {
             moved = false;
             for g in 0..stage.len() {
-                if let Some((to, _)) = rung.step(&stage, g, limit) {
+                if let Some((to, gain)) = rung.step(&stage, g, k, limit) {
                     stage[g] = to;
-                    moves += 1;
+                    moves += (gain > 0) as usize;
+                    evened += (gain == 0) as usize;
                     moved = true;
                 }
             }
@@ -212,7 +249,7 @@ fn first_and_moves(blocks: &Rung, rows: &[Vec<usize>], at: usize, k: usize, limi
         stage_of_block = row.iter().map(|&g| stage[g]).collect();
     }
     let cut = widths_between(blocks, &stage_of_block);
-    Some((cut, rows.len() - 1, at, moves, stage_of_block))
+    Some(Split { cut, rounds: rows.len() - 1, rung: at, moves, evened, stages: stage_of_block })
 }
 
 /// Checks 1 to 3 and 5 to 8, on whatever is lent.

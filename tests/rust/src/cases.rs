@@ -58,6 +58,12 @@ impl Runs {
         self.0 += 1;
     }
 
+    /// A kit whose stages are evened out: this table with a cut of 0, on rung 0, and so many moves counted.
+    fn evened(&mut self, name: &str, kit: &Lent, table: &[u16], moves: usize) {
+        self.split(name, kit, Ok([0, 0, 0, moves]));
+        assert_eq!(kit.split(table.len(), 9 * table.len()).tables[0], table, "{name}");
+    }
+
     /// The same refusal by both calls.
     fn both(&mut self, name: &str, kit: &Lent, number: u32, place: usize) {
         self.split(name, kit, Err((number, place)));
@@ -99,6 +105,14 @@ fn kits(runs: &mut Runs) {
     runs.both("unequal lists", &two, 3, 0);
 }
 
+/// Moves of gain 0, which request a of document 02 adds and which are not counted.
+fn evened(runs: &mut Runs) {
+    runs.evened("to the lowest lighter stage", &lent(&[2, 1, 2, 1], &[], 3, 3), &[0, 1, 2, 1], 0);
+    runs.evened("in two passes", &lent(&[1, 3, 2], &[], 2, 5), &[1, 0, 1], 0);
+    // block 2 goes to stage 0 for nothing but evenness; only then does block 3 gain by following it
+    runs.evened("then a gain", &lent(&[4, 4, 1, 1], &[(0, 2), (2, 3)], 2, 10), &[0, 1, 0, 0], 1);
+}
+
 fn case_ten(runs: &mut Runs) {
     let own: Vec<u16> = (0..17).collect();
     runs.inspect("case 10, 16 stages", &lent(&[1; 16], &[], 16, 1), &own, Ok((0, &own[..16])));
@@ -123,6 +137,7 @@ pub fn run() -> usize {
     let mut runs = Runs(0);
     tables(&mut runs);
     kits(&mut runs);
+    evened(&mut runs);
     case_ten(&mut runs);
     case_eleven(&mut runs);
     runs.0

@@ -1,8 +1,9 @@
-//! Runs the archive beside the reference: document 01's cases with their answers, the digest of 512 kits, and
-//! generated kits, damaged ones too. Usage: agreement SEED COUNT
+//! Runs the archive beside the reference: document 01's cases with their answers, the vectors, the digest of 512 kits,
+//! and generated kits, damaged ones too. Usage: agreement SEED COUNT
 
 mod calls;
 mod cases;
+mod vectors;
 
 use calls::{read, read_by_reference, Lengths, Lent, Outcome, GUARD};
 use reference::digest;
@@ -108,6 +109,7 @@ fn main() {
     let mut arguments = std::env::args().skip(1).map(number);
     let (seed, count) = (arguments.next().expect("a seed"), arguments.next().expect("a count"));
     let cases = cases::run();
+    let lines = vectors::run();
 
     assert_eq!(digest::lines(), STORED_DIGEST, "the reference's digest");
     assert_eq!(digest::lines_of(digest_values), STORED_DIGEST, "the archive's digest");
@@ -117,5 +119,10 @@ fn main() {
     for (number, times) in tally.0.iter().enumerate() {
         assert!(*times > 0, "number {number} never came");
     }
-    println!("tests/rust: passed: {cases} cases, the digest of {} kits, {count} generated kits; each number came (times): {:?}", digest::KITS, tally.0);
+    println!(
+        "tests/rust: passed: {cases} cases, {lines} lines of {}, the digest of {} kits, {count} generated kits; each number came (times): {:?}",
+        vectors::NAME,
+        digest::KITS,
+        tally.0
+    );
 }

@@ -26,7 +26,7 @@ Inv-loop costs starts ends widths bound row from to width head next table₀ hea
 
 abbrev μ-loop : tie.MeasureT-loop
 μ-loop costs starts ends widths bound row from to width head next table₀ head-in next-in cluster-costs g low₀ high₀ marks₀ k p₀ table low high marks p =
-    measure (graphOf costs starts ends widths) (through row table)
+    measure (graphOf costs starts ends widths) (p₀ .sums .count) (through row table)
 
 pub settle-spec : {M : Type 1} → statement M
 settle-spec =
