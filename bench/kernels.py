@@ -247,7 +247,7 @@ def write_all(folder, shape, size, g):
 def slow_chain(n, cost):
     """A chain of a fifth of the blocks, numbered against its wires, and a star of the rest. The first cut ends
     the early stages after one block each. A block goes over to the stage before as soon as its sender has
-    gone, but it was visited before its sender: a pass moves one block over each border. A longer chain
+    gone, but it was visited before its sender: a pass takes at most one over a border. A longer chain
     would be joined: its pairs would be a tenth of the blocks."""
     long = n // 5 - 2
     g = Tasks()

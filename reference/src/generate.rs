@@ -210,8 +210,8 @@ pub fn sound(r: &mut Rng, shape: Shape) -> Instance {
     Instance { weights, edges, k, bound }
 }
 
-/// A sound kit whose first cut is uneven and whose stages are then evened out: few wires, all of one width so that
-/// many moves gain 0, costs of every magnitude, mostly 16 stages, and a limit that matters little or not at all.
+/// A sound kit whose first cut is uneven and whose stages are then evened out: few wires, all of one width
+/// so that many moves gain 0, costs of every magnitude, mostly 16 stages, and a limit that matters little.
 pub fn uneven(r: &mut Rng) -> Instance {
     let name = r.pick(&["chain", "in-tree", "sparse", "no wires", "strands"]);
     let (_, shape) = *SHAPES.iter().find(|shape| shape.0 == name).expect("a shape's name");

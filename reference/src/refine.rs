@@ -11,8 +11,8 @@ pub struct Move {
     pub gain: i64,
 }
 
-/// Passes until one moves nothing, and how many there were, with that one. `loads` holds the cost of each part.
-/// `after` sees every move of both kinds, with the parts as they then stand.
+/// Passes until one moves nothing, and how many there were, with that one. `loads` holds the cost of each
+/// part. `after` sees every move of both kinds, with the parts as they then stand.
 pub fn refine(
     graph: &Graph,
     parts: &mut [u16],

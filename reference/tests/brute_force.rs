@@ -205,7 +205,7 @@ fn good(rung: &naive::Rung, stage: &[usize], k: usize, limit: u32) -> bool {
         && (0..k).all(|s| (1..=limit as u64).contains(&naive::stage_cost(rung, stage, s)))
 }
 
-/// The passes on one rung from its first cut, with each move looked at: how many gained and how many evened out.
+/// The passes on one rung from its first cut, each move looked at: how many gained and how many evened out.
 /// Each lowers the cut, or the spread at the same cut, so the passes end.
 fn watched_passes(kit: &Small, level: &coarsen::Level, what: &str) -> Option<[u64; 2]> {
     let (k, limit) = (kit.k as usize, kit.limit);
@@ -246,7 +246,7 @@ fn each_move_gains_or_evens_out() {
     assert!(moves[0] > 1_000 && moves[1] > 5_000, "{moves:?}");
 }
 
-/// Visits are in number order, so a list of moves to allowed candidates of any gain is more than the split's own.
+/// Demand 3's lists: whoever picked the moves, in any order and whatever they gain.
 #[test]
 fn any_moves_to_allowed_candidates_keep_the_table_good() {
     let mut moves = 0;

@@ -1,5 +1,6 @@
-//! The lines of a file of vectors: a kit, and what another implementation answers for it. The tests of the reference
-//! and those of the archive (tests/rust) both include this file; it reads as much JSON as the lines have.
+//! The lines of a file of vectors: a kit, and what another implementation answers for it. The tests of the
+//! reference and those of the archive (tests/rust) both include this file; it reads as much JSON as the
+//! lines have.
 
 /// The one name of the file. The next request that has a file puts its own in this place.
 macro_rules! name {

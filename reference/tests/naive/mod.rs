@@ -1,4 +1,5 @@
-//! Document 01, with the moves of document 02 a, written down as directly as possible, with no regard for speed.
+//! Document 01 with the moves of document 02 a, written down as directly as possible, with no regard for
+//! speed.
 
 use reference::Refusal;
 use std::collections::BTreeMap;
