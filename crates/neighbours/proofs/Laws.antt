@@ -1,17 +1,18 @@
 -- Walks along a cluster's edges that see the parts at the far ends.
-use Prim.Native.Nat.{ℕ, zero, suc, _+_, _≤_, _<_, min, max}
+use Prim.Native.Nat.{ℕ, _+_, _-_, _≤_, _<_, min, max}
 use mathlib.Core.Path.{_≡_, refl, sym, _∙_}
 use mathlib.Core.Bool.{true, _&&_}
+use mathlib.Core.Logic.{_⊎_}
 use mathlib.Core.List.{List}
-use native.Mathlib.Nat.{not-suc-le-zero}
 use native.Mathlib.Omega.{arith}
 use lib.Dec.{eqb}
 use lib.ListN.{length, getD, set, length-set, replicate, getD-replicate}
 use borrow.Author.Tests.{eqb-true, eq-eqb, ne-eqb}
 use Rattle.folds.specs.Fold.{when, sumTo, turns, mostWidth}
-use Rattle.folds.proofs.Cases.{by, either, last-or, when-le}
+use Rattle.folds.proofs.Cases.{by, either, when-le}
+use Rattle.folds.proofs.Best.{choose-is, choose-of, min-one, max-one}
 use Rattle.folds.proofs.Lists.{set-add}
-use Rattle.folds.proofs.Sums.{sumTo-step, sumTo-less, sumTo-mono, sumTo-none}
+use Rattle.folds.proofs.Sums.{sumTo-step, sumTo-less, sumTo-mono, sumTo-none, sumTo-member}
 use Rattle.graph.specs.Graph.{via}
 use Rattle.graph.specs.Links.{Linked, Ended}
 use Rattle.graph.proofs.Links.{Only, Acts, On, sum-on, sum-next, turns-on, turns-next}
@@ -22,7 +23,13 @@ pub ended-back : {froms tos : List ℕ} → Ended froms tos → Ended tos froms
 ended-back E = record { from = E .to; to = E .from; same = sym (E .same) }
 
 pub listed-back : {froms tos widths : List ℕ} → Listed froms tos widths → Listed tos froms widths
-listed-back L = record { ends = ended-back (L .ends); same-widths = L .same-widths ∙ sym (L .ends .same); narrow = rw (L .ends .same) (L .narrow) }
+listed-back L =
+    record {
+      ends = ended-back (L .ends);
+      same-widths = L .same-widths ∙ sym (L .ends .same);
+      narrow = rw (L .ends .same) (L .narrow);
+      wide = rw (L .ends .same) (L .wide);
+    }
 
 module _ (near far table : List ℕ) (h : ℕ) where
   lower-acts : Acts (λ i. getD near i 0) h (lowerBy near far table h)
@@ -107,21 +114,31 @@ pub room-next : (near far widths table : List ℕ) {h m : ℕ} {now : List ℕ} 
 room-next near far widths table {h} {m} n A =
     record { long = A .long; room = λ u lu. omega (arith, A .is u lu, getD-replicate {A = ℕ} 16 u 0 0 lu, width-le near far widths table h u m) }
 
--- the parts at the far ends of the edges whose near end is h: none below the lowest, none above the highest
+-- the parts at the far ends of the edges whose near end is h: none below the lowest, none above the highest, which are parts of some
 module _ (near far table : List ℕ) (h : ℕ) where
   lower-le : (k m j : ℕ) → j < m → getD near j 0 ≡ h → turns m (lowerBy near far table h) k ≤ via table far j
-  unfolding turns lowerBy
-  lower-le k zero j l e = absurd (not-suc-le-zero l)
-  lower-le k (suc m) j l e =
-      either (last-or l) (λ q. rw (← q, eq-eqb (getD near j 0) h e) (omega arith))
-      (λ g. let r = lower-le k m j g e in by (eqb (getD near m 0) h) (λ t. rw t (omega arith)) (λ t. rw t r))
+  unfolding lowerBy
+  lower-le k m j l e = choose-of (λ i. eqb (getD near i 0) h) (via table far) min k (λ a b. a ≤ b) (λ a b c x y. omega arith) (λ a b. omega arith) (λ a b. omega arith) m j l (eq-eqb _ _ e)
 
-  raise-le : (m j : ℕ) → j < m → getD near j 0 ≡ h → via table far j < turns m (raiseBy near far table h) 0
-  unfolding turns raiseBy
-  raise-le zero j l e = absurd (not-suc-le-zero l)
-  raise-le (suc m) j l e =
-      either (last-or l) (λ q. rw (← q, eq-eqb (getD near j 0) h e) (omega arith))
-      (λ g. let r = raise-le m j g e in by (eqb (getD near m 0) h) (λ t. rw t (omega arith)) (λ t. rw t r))
+  lower-is : (k m : ℕ) → (turns m (lowerBy near far table h) k ≡ k) ⊎ ((j : ℕ) × (j < m) × (eqb (getD near j 0) h ≡ true) × (via table far j ≡ turns m (lowerBy near far table h) k))
+  unfolding lowerBy
+  lower-is k m = choose-is (λ i. eqb (getD near i 0) h) (via table far) min k min-one m
+
+  raise-le : (m j : ℕ) → j < m → getD near j 0 ≡ h → via table far j + 1 ≤ turns m (raiseBy near far table h) 0
+  unfolding raiseBy
+  raise-le m j l e =
+      choose-of (λ i. eqb (getD near i 0) h) (λ i. via table far i + 1) max 0 (λ a b. b ≤ a) (λ a b c x y. omega arith) (λ a b. omega arith) (λ a b. omega arith) m j l (eq-eqb _ _ e)
+
+  raise-is : (m : ℕ) → (turns m (raiseBy near far table h) 0 ≡ 0) ⊎ ((j : ℕ) × (j < m) × (eqb (getD near j 0) h ≡ true) × (via table far j + 1 ≡ turns m (raiseBy near far table h) 0))
+  unfolding raiseBy
+  raise-is m = choose-is (λ i. eqb (getD near i 0) h) (λ i. via table far i + 1) max 0 max-one m
+
+  -- some width to a part that one of these edges leads to
+  width-some : (widths : List ℕ) (m j u : ℕ) → j < m → eqb (getD near j 0) h ≡ true → via table far j ≡ u → 0 < getD widths j 0 → 0 < sumTo m (widthTo near far widths table h u)
+  unfolding widthTo
+  width-some widths m j u l e q w =
+      let s = sumTo-member m (λ i. when (eqb (getD near i 0) h && eqb (via table far i) u) (getD widths i 0)) j l in
+      let t = rw (e, eq-eqb (via table far j) u q) at s in omega (arith, t)
 
   -- no width to a part that none of these edges leads to
   width-none : (widths : List ℕ) (m u : ℕ) → ((j : ℕ) → j < m → getD near j 0 ≡ h → via table far j ≡ u → ⊥) → sumTo m (widthTo near far widths table h u) ≡ 0
@@ -136,6 +153,21 @@ unfolding pullTo lowNext highBefore
 pull-between froms tos widths table h k u a b =
     let x = width-none froms tos table h widths (length froms) u (λ j l e q. omega (arith, lower-le froms tos table h k (length froms) j l e)) in
     let y = width-none tos froms table h widths (length froms) u (λ j l e q. omega (arith, raise-le tos froms table h (length froms) j l e)) in omega (arith, x, y)
+
+-- but to the part of the highest predecessor and to that of the lowest successor
+pub pull-high : (froms tos widths table : List ℕ) (h : ℕ) → ((i : ℕ) → i < length froms → 0 < getD widths i 0) → 0 < highBefore froms tos table h
+    → 0 < pullTo froms tos widths table h (highBefore froms tos table h - 1)
+unfolding pullTo highBefore
+pull-high froms tos widths table h wide l =
+    either (raise-is tos froms table h (length froms)) (λ e. absurd (omega arith))
+    (λ (j, lj, e, q). omega (arith, width-some tos froms table h widths (length froms) j (turns (length froms) (raiseBy tos froms table h) 0 - 1) lj e (omega (arith, q)) (wide j lj)))
+
+pub pull-low : (froms tos widths table : List ℕ) (h k : ℕ) → ((i : ℕ) → i < length froms → 0 < getD widths i 0) → lowNext froms tos table h k < k
+    → 0 < pullTo froms tos widths table h (lowNext froms tos table h k)
+unfolding pullTo lowNext
+pull-low froms tos widths table h k wide l =
+    either (lower-is froms tos table h k (length froms)) (λ e. absurd (omega arith))
+    (λ (j, lj, e, q). omega (arith, width-some froms tos table h widths (length froms) j _ lj e q (wide j lj)))
 
 -- the two ways together
 pub both-ways : (froms tos widths table : List ℕ) {h : ℕ} {now now′ : List ℕ} → length tos ≡ length froms

@@ -19,6 +19,7 @@ pub record Listed (froms tos widths : List ℕ) : Type 0 where
   pub ends : Ended froms tos
   pub same-widths : length widths ≡ length froms
   pub narrow : sumTo (length froms) (λ i. getD widths i 0) ≤ mostWidth
+  pub wide : (i : ℕ) → i < length froms → 0 < getD widths i 0
 
 -- the edges' lists by the cluster that they leave, and by the one that they enter
 pub record Indexed (froms tos head next head-in next-in : List ℕ) : Type 0 where
@@ -60,3 +61,9 @@ pub record Added (near far widths table : List ℕ) (h m : ℕ) (toward toward�
 pub record Pulled (froms tos widths table : List ℕ) (h : ℕ) (toward : List ℕ) : Type 0 where
   pub long : length toward ≡ 16
   pub is : (u : ℕ) → u < 16 → getD toward u 0 ≡ pullTo froms tos widths table h u
+
+-- the part of h is one of k, from the highest of its predecessors to the lowest of its successors
+pub record Seated (froms tos table : List ℕ) (k h : ℕ) : Type 0 where
+  pub inside : getD table h 0 < k
+  pub after : highBefore froms tos table h ≤ getD table h 0 + 1
+  pub before : getD table h 0 ≤ lowNext froms tos table h k

@@ -11,7 +11,7 @@ use borrow.Author.Tests.{ltb-true, lt-ltb, le-ltb, leb-true}
 use Rattle.folds.proofs.Cases.{both, either, eq-or-ne}
 use Rattle.graph.specs.Graph.{partCost}
 use Rattle.part_sums.specs.declared.PartSums.{PartSums}
-use Rattle.part_sums.specs.Sums.{SumsOf, sizeAllowed, sumsAllow, Shifts, shifted, Shifted}
+use Rattle.part_sums.specs.Sums.{SumsOf, sizeAllowed, sumsAllow, sumsEven, FirstEven, NoneBelow, FirstBelow, Shifts, shifted, Shifted}
 
 set-others : (l : List ℕ) (a b x y u : ℕ) → (u ≡ a → ⊥) → (u ≡ b → ⊥) → getD (set (set l a x) b y) u 0 ≡ getD l u 0
 set-others l a b x y u n m = getD-set-other (set l a x) b u y 0 m ∙ getD-set-other l a u x 0 n
@@ -71,3 +71,24 @@ shifted-count S from to cost = refl
 
 pub shifted-two : (S : PartSums) (from to cost : ℕ) (r : PartSums) → r ≡ shifted S from to cost → Shifted S from to cost r
 shifted-two S from to cost r e = record { is = e; counts = rw e (shifted-count S from to cost); others = λ u n m. rw e (shifted-others S from to cost 0 u n m) }
+
+-- the first part that evens, from what the branches say
+pub below-none : (sums : List ℕ) (first rest : ℕ) → NoneBelow sums first rest first
+below-none sums first rest = record { at = λ u g l. absurd (omega arith) }
+
+pub below-turn : {sums : List ℕ} {first rest t : ℕ} → NoneBelow sums first rest t → rest ≤ getD sums t 0 → NoneBelow sums first rest (t + 1)
+below-turn {t = t} N l = record { at = λ u g h. either (eq-or-ne u t) (λ q. rw q l) (λ n. N .at u g (omega arith)) }
+
+pub even-poor : (S : PartSums) (own cost first end : ℕ) → getD (S .sums) own 0 ≤ cost → FirstEven S own cost first end end
+unfolding sumsEven
+even-poor S own cost first end l =
+    record { none = λ u g h e. le-ltb (getD (S .sums) u 0 + cost) (getD (S .sums) own 0) (omega arith); some = λ h. absurd (omega arith) }
+
+pub even-below : (S : PartSums) (own cost first end : ℕ) {rest r : ℕ} → cost < getD (S .sums) own 0 → rest ≡ getD (S .sums) own 0 - cost
+    → FirstBelow (S .sums) first end rest r → FirstEven S own cost first end r
+unfolding sumsEven
+even-below S own cost first end {rest} {r} l q F =
+    record {
+      none = λ u g h e. le-ltb (getD (S .sums) u 0 + cost) (getD (S .sums) own 0) (omega (arith, F .none .at u g h));
+      some = λ h. let (g, b) = F .some h in (g, lt-ltb (getD (S .sums) r 0 + cost) (getD (S .sums) own 0) (omega arith));
+    }

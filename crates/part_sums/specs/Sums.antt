@@ -1,7 +1,7 @@
 -- The record of part sums: what it holds, and what its methods answer.
 use Prim.Native.Nat.{ℕ, _+_, _-_, _≤_, _<_, _^_}
 use mathlib.Core.Path.{_≡_}
-use mathlib.Core.Bool.{Bool, _&&_}
+use mathlib.Core.Bool.{Bool, true, false, _&&_}
 use mathlib.Core.List.{List}
 use lib.Dec.{ltb, leb}
 use lib.ListN.{length, getD, set}
@@ -24,6 +24,18 @@ sumsAllow S from to cost bound = sizeAllowed S from cost (getD (S .sums) to 0 + 
 -- by a cost that goes from one part to another the larger of the two sums falls
 unfoldable pub sumsEven : PartSums → ℕ → ℕ → ℕ → Bool
 sumsEven S from to cost = ltb (getD (S .sums) to 0 + cost) (getD (S .sums) from 0)
+
+-- r is the first part from `first` on and before `end` that evens the cost's own out, or one past them; the same of sums below `rest`
+pub record FirstEven (S : PartSums) (own cost first end r : ℕ) : Type 0 where
+  pub none : (u : ℕ) → first ≤ u → u < r → u < end → sumsEven S own u cost ≡ false
+  pub some : r < end → (first ≤ r) × (sumsEven S own r cost ≡ true)
+
+pub record NoneBelow (sums : List ℕ) (first rest end : ℕ) : Type 0 where
+  pub at : (u : ℕ) → first ≤ u → u < end → rest ≤ getD sums u 0
+
+pub record FirstBelow (sums : List ℕ) (first end rest r : ℕ) : Type 0 where
+  pub none : NoneBelow sums first rest r
+  pub some : r < end → (first ≤ r) × (getD sums r 0 < rest)
 
 -- a cost that can go from one part to another
 pub record Shifts (S : PartSums) (from to cost : ℕ) : Type 0 where

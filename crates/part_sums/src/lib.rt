@@ -1,10 +1,10 @@
 // The record of part sums: made of a table, asked whether a move is allowed, and moved.
 ghost use mathlib.Core.Path.{_≡_};
-ghost use Prim.Native.Nat.{_<_};
+ghost use Prim.Native.Nat.{_<_, _≤_};
 ghost use lib.ListN.{length};
 ghost use Rattle.folds.specs.Fold.{Read};
 ghost use Rattle.graph.specs.Totals.{Keyed};
-ghost use Rattle.part_sums.specs.Sums.{SumsOf, sizeAllowed, sumsAllow, sumsEven, Shifts, Shifted};
+ghost use Rattle.part_sums.specs.Sums.{SumsOf, sizeAllowed, sumsAllow, sumsEven, FirstBelow, FirstEven, Shifts, Shifted};
 
 // The cost of each of up to 16 parts, and how many parts there are.
 pub struct PartSums {
@@ -18,6 +18,21 @@ fn sum_at(sums: &[u32], u: usize) -> u64
     ensures { λ r. ⌜ Read (now (sums .entry)) u 4294967296 r ⌝ }
 {
     sums[u] as u64
+}
+
+// The first sum from `first` on and before `end` that is below `rest`, or one past them.
+fn first_below(sums: &[u32], first: usize, end: usize, rest: u32) -> usize
+    requires { ⌜ end ≤ length (now sums) ⌝ }
+    ensures { λ r. ⌜ FirstBelow (now (sums .entry)) first end rest r ⌝ }
+{
+    let mut t = first;
+    while t < end {
+        if sums[t] < rest {
+            return t;
+        }
+        t += 1;
+    }
+    t
 }
 
 impl PartSums {
@@ -62,6 +77,18 @@ impl PartSums {
         let size = sum_at(&self.sums, to) + cost as u64;
         let old = sum_at(&self.sums, from);
         size < old
+    }
+
+    // The first part from `first` on and before `end` with which a cost evens its own out, or one past them.
+    pub fn first_even(self, own: usize, cost: u32, first: usize, end: usize) -> usize
+        requires { ⌜ (own < 16) × (end ≤ 16) ⌝ }
+        ensures { λ r. ⌜ FirstEven self own cost first end r ⌝ }
+    {
+        if self.sums[own] <= cost {
+            return end;
+        }
+        let rest = self.sums[own] - cost;
+        first_below(&self.sums, first, end, rest)
     }
 
     // The record after a cost has gone from one part to another.

@@ -6,7 +6,7 @@ use mathlib.Core.Logic.{_⊎_, inl, inr, _↔_}
 use mathlib.Core.List.{List, [], _∷_}
 use native.Mathlib.Omega.{arith}
 use lib.Dec.{leb}
-use lib.IntN.{ℤ, pos, _+ℤ_}
+use lib.IntN.{pos, _+ℤ_}
 use lib.ListN.{length, getD, take}
 use borrow.Author.Tests.{le-leb, leb-true}
 use Rattle.folds.specs.Fold.{over}

@@ -2,11 +2,12 @@
 use Prim.Native.Nat.{ℕ, _+_, _-_, _≤_, _<_, min}
 use mathlib.Core.Path.{_≡_}
 use mathlib.Core.Bool.{Bool, true, false, not, _&&_, _||_}
+use mathlib.Core.Logic.{_⊎_}
 use mathlib.Core.List.{List}
 use lib.Dec.{eqb, ltb, leb}
 use lib.ListN.{getD, set}
 use Rattle.folds.specs.Fold.{pick, when, bestTo}
-use Rattle.neighbours.specs.Visit.{Placed, lowNext, highBefore, pullTo}
+use Rattle.neighbours.specs.Visit.{Placed, lowNext, highBefore, pullTo, Seated}
 use Rattle.neighbours.specs.Known.{Known}
 use Rattle.part_sums.specs.declared.PartSums.{PartSums}
 use Rattle.pass.specs.declared.Progress.{Progress}
@@ -35,24 +36,49 @@ unfoldable pub betterOf : (ℕ → ℕ) → PartSums → ℕ → ℕ → ℕ →
 betterOf f S own cost bound t best =
     pick (not (eqb own t) && (beatsOf f own t best && (gainsBy f S own cost t && sumsAllow S own t cost bound))) t best
 
--- no width to the parts between the predecessors' and the successors'
-abbrev pub Flanks : (ℕ → ℕ) → ℕ → ℕ → Type 0
-Flanks f low high = (u : ℕ) → high ≤ u → u < low → f u ≡ 0
+-- what is known of the widths f without a look at them, where own is from the highest part of the predecessors to the lowest of the successors: some to
+-- these two parts, none to those between
+pub record Around (f : ℕ → ℕ) (k own low high : ℕ) : Type 0 where
+  pub inside : own < k
+  pub after : high ≤ own + 1
+  pub before : own ≤ low
+  pub at-high : 0 < high → 0 < f (high - 1)
+  pub at-low : low < k → 0 < f low
+  pub between : (u : ℕ) → high ≤ u → u < low → f u ≡ 0
 
--- part t is not open, whatever the other widths are
-abbrev pub Barred : PartSums → ℕ → ℕ → ℕ → ℕ → ℕ → ℕ → Type 0
-Barred S own cost bound low high t = (f : ℕ → ℕ) → Flanks f low high → openOf f S own cost bound low high t ≡ false
+-- the part of the highest predecessor is another one and allowed; that of the lowest successor
+unfoldable pub backAllowed : PartSums → ℕ → ℕ → ℕ → ℕ → Bool
+backAllowed S own cost bound high = (ltb 0 high && leb high own) && sumsAllow S own (high - 1) cost bound
 
--- no candidate is left out from part r on, and none below it is open
-pub record Begins (S : PartSums) (own cost bound low high r : ℕ) : Type 0 where
-  pub from : high ≤ r + 1
-  pub none : (u : ℕ) → u < r → Barred S own cost bound low high u
+unfoldable pub aheadAllowed : PartSums → ℕ → ℕ → ℕ → ℕ → Bool
+aheadAllowed S own cost bound low = (ltb own low && ltb low (S .count)) && sumsAllow S own low cost bound
 
--- the open parts are from start on and below end, where each is a candidate but the own one
-pub record Spans (f : ℕ → ℕ) (S : PartSums) (own cost bound low high start end : ℕ) : Type 0 where
-  pub from : high ≤ start + 1
-  pub none : (u : ℕ) → u < start → openOf f S own cost bound low high u ≡ false
-  pub end-is : end ≡ min (low + 1) (S .count)
+-- the choice among these two
+unfoldable pub backOf : (ℕ → ℕ) → PartSums → ℕ → ℕ → ℕ → ℕ → ℕ
+backOf f S own cost bound high = pick (ltb 0 high) (betterOf f S own cost bound (high - 1) own) own
+
+unfoldable pub endsOf : (ℕ → ℕ) → PartSums → ℕ → ℕ → ℕ → ℕ → ℕ → ℕ
+endsOf f S own cost bound low high =
+    pick (ltb low (S .count)) (betterOf f S own cost bound low (backOf f S own cost bound high)) (backOf f S own cost bound high)
+
+-- part u evens and is allowed
+unfoldable pub evenly : PartSums → ℕ → ℕ → ℕ → ℕ → Bool
+evenly S own cost bound u = sumsEven S own u cost && sumsAllow S own u cost bound
+
+pub record NoneEvens (S : PartSums) (own cost bound high end : ℕ) : Type 0 where
+  pub at : (u : ℕ) → high ≤ u → u < end → evenly S own cost bound u ≡ false
+
+-- r is the lowest part between that does
+pub record FirstEvens (S : PartSums) (own cost bound low high r : ℕ) : Type 0 where
+  pub from : high ≤ r
+  pub below : r < low
+  pub inside : r < S .count
+  pub evens : evenly S own cost bound r ≡ true
+  pub first : NoneEvens S own cost bound high r
+
+abbrev pub EvenPart : PartSums → ℕ → ℕ → ℕ → ℕ → ℕ → ℕ → Type 0
+EvenPart S own cost bound low high r =
+    ((r ≡ own) × NoneEvens S own cost bound high (min low (S .count))) ⊎ FirstEvens S own cost bound low high r
 
 -- r is that part, and one of the 16
 pub record PickedPart (f : ℕ → ℕ) (S : PartSums) (own cost bound low high r : ℕ) : Type 0 where
@@ -106,6 +132,11 @@ worked froms tos widths costs bound h w = movedBy froms tos widths costs h (choi
 -- what the visit of cluster h gains is in the cut
 unfoldable pub Paid : List ℕ → List ℕ → List ℕ → List ℕ → ℕ → ℕ → Work → Type 0
 Paid froms tos widths costs bound h w = gainAt froms tos widths h (w .table) (choiceAt froms tos widths costs bound h (w .table) (w .sums)) ≤ w .cut
+
+-- what a visit of cluster h asks for
+pub record Visitable (froms tos widths costs : List ℕ) (bound h : ℕ) (w : Work) : Type 0 where
+  pub paid : Paid froms tos widths costs bound h w
+  pub seated : Seated froms tos (w .table) (w .sums .count) h
 
 -- r is where the visit of cluster h takes it, and what is known afterwards of the clusters
 pub record Goal (froms tos widths costs : List ℕ) (bound h : ℕ) (table : List ℕ) (S : PartSums) (low high marks : List ℕ) (r : Target) : Type 0 where

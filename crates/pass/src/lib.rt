@@ -1,13 +1,13 @@
 // A pass over the clusters of a rung: each goes where an allowed candidate gains most, or evens two parts out where none gains.
-ghost use mathlib.Core.Bool.{false};
+ghost use mathlib.Core.Bool.{_||_};
 ghost use mathlib.Core.Path.{_≡_};
-ghost use Prim.Native.Nat.{ℕ, _+_, _-_, _<_, _≤_, _^_, min};
+ghost use Prim.Native.Nat.{ℕ, _+_, _<_, _≤_, _^_, min};
 ghost use lib.Dec.{ltb};
 ghost use lib.ListN.{length, getD};
 ghost use Rattle.folds.specs.Fold.{when, turns};
-ghost use Rattle.neighbours.specs.Visit.{Placed, Listed, Indexed, pullTo};
+ghost use Rattle.neighbours.specs.Visit.{Placed, Listed, Indexed, pullTo, Seated};
 ghost use Rattle.neighbours.specs.Known.{Known};
-ghost use Rattle.pass.specs.Work.{gainsBy, choiceOf, beatsOf, betterOf, Flanks, Barred, Begins, Spans, Aims, workOf, begun, worked, Paid, Goal, WorkDone};
+ghost use Rattle.pass.specs.Work.{gainsBy, beatsOf, betterOf, Around, backAllowed, aheadAllowed, backOf, endsOf, EvenPart, Aims, workOf, begun, worked, Visitable, Goal, WorkDone};
 use part_sums::PartSums;
 
 // The sums, the cut, the moves counted so far, and whether the pass at hand has moved something.
@@ -84,99 +84,105 @@ fn better(
     best
 }
 
-// Where a cluster goes: of the parts from start on and below end the one that gains most, the lowest of those that gain the same, or its own.
-fn choice(
+// The part of the highest predecessor, where the cluster goes there, or its own.
+fn back(toward: &[u32; 16], sums: PartSums, own: usize, high: usize, cost: u32, bound: u32) -> usize
+    requires { ⌜ length (now toward) ≡ 16 ⌝ }
+    requires { ⌜ (own < 16) × (high ≤ own + 1) ⌝ }
+    ensures { λ r. ⌜ r ≡ backOf (λ u. getD (now (toward .entry)) u 0) sums own cost bound high ⌝ }
+    ensures { λ r. ⌜ r < 16 ⌝ }
+{
+    if high == 0 {
+        return own;
+    }
+    better(toward, sums, own, high - 1, own, cost, bound)
+}
+
+// Where a cluster goes of the parts of its highest predecessor and its lowest successor: the one that gains most, the lower where both gain the
+// same, or its own.
+fn ends(
     toward: &[u32; 16],
     sums: PartSums,
     own: usize,
-    start: usize,
-    end: usize,
-    cost: u32,
-    bound: u32,
-) -> usize
-    requires { ⌜ length (now toward) ≡ 16 ⌝ }
-    requires { ⌜ (own < 16) × (start ≤ end) × (end ≤ 16) ⌝ }
-    ensures { λ r. ⌜ ((low high : ℕ) → Spans (λ u. getD (now (toward .entry)) u 0) sums own cost bound low high start end → r ≡ choiceOf (λ u. getD (now (toward .entry)) u 0) sums own cost bound low high) ⌝ }
-    ensures { λ r. ⌜ r < 16 ⌝ }
-{
-    let mut best = own;
-    let mut t = start;
-    while t < end {
-        best = better(toward, sums, own, t, best, cost, bound);
-        t += 1;
-    }
-    best
-}
-
-// The lowest part that can be a candidate.
-fn first_part(high: usize) -> usize
-    ensures { λ r. ⌜ r ≡ high - 1 ⌝ }
-{
-    if high == 0 {
-        return 0;
-    }
-    high - 1
-}
-
-// One more than the highest part that can be a candidate.
-fn parts_end(low: usize, count: usize) -> usize
-    ensures { λ r. ⌜ r ≡ min (low + 1) count ⌝ }
-{
-    if count <= low {
-        return count;
-    }
-    low + 1
-}
-
-// Whether part t is worth a look at the widths. The cluster has none to a part between its predecessors' and its successors', so that it goes
-// there only if it evens.
-fn worth(
-    sums: PartSums,
-    own: usize,
-    t: usize,
     low: usize,
     high: usize,
     cost: u32,
     bound: u32,
-) -> bool
-    requires { ⌜ (own < 16) × (t < 16) ⌝ }
-    ensures { λ r. ⌜ (r ≡ false → Barred sums own cost bound low high t) ⌝ }
+) -> usize
+    requires { ⌜ length (now toward) ≡ 16 ⌝ }
+    requires { ⌜ (own < 16) × (high ≤ own + 1) × (sums .count ≤ 16) ⌝ }
+    ensures { λ r. ⌜ r ≡ endsOf (λ u. getD (now (toward .entry)) u 0) sums own cost bound low high ⌝ }
+    ensures { λ r. ⌜ r < 16 ⌝ }
 {
-    if own == t {
-        return false;
+    let best = back(toward, sums, own, high, cost, bound);
+    if sums.count <= low {
+        return best;
     }
-    let allowed = sums.lets(own, t, cost, bound);
-    if !allowed {
-        return false;
-    }
-    if t == low {
-        return true;
-    }
-    if t + 1 == high {
-        return true;
-    }
-    sums.evens(own, t, cost)
+    better(toward, sums, own, low, best, cost, bound)
 }
 
-// The first candidate that is worth a look at the widths, or a part past the last.
-fn first_worth(sums: PartSums, own: usize, low: usize, high: usize, cost: u32, bound: u32) -> usize
-    requires { ⌜ (own < 16) × (sums .count ≤ 16) ⌝ }
-    ensures { λ r. ⌜ Begins sums own cost bound low high r ⌝ }
+// Whether the part of the highest predecessor is another one and allowed.
+fn back_allowed(sums: PartSums, own: usize, high: usize, cost: u32, bound: u32) -> bool
+    requires { ⌜ own < 16 ⌝ }
+    ensures { λ r. ⌜ r ≡ backAllowed sums own cost bound high ⌝ }
 {
-    let end = parts_end(low, sums.count);
-    let mut t = first_part(high);
+    if high == 0 {
+        return false;
+    }
+    if own < high {
+        return false;
+    }
+    sums.lets(own, high - 1, cost, bound)
+}
+
+// Whether that part, or the part of the lowest successor, is another one and allowed.
+fn end_allowed(sums: PartSums, own: usize, low: usize, high: usize, cost: u32, bound: u32) -> bool
+    requires { ⌜ (own < 16) × (sums .count ≤ 16) ⌝ }
+    ensures { λ r. ⌜ r ≡ (backAllowed sums own cost bound high || aheadAllowed sums own cost bound low) ⌝ }
+{
+    let back = back_allowed(sums, own, high, cost, bound);
+    if back {
+        return true;
+    }
+    if low <= own {
+        return false;
+    }
+    if sums.count <= low {
+        return false;
+    }
+    sums.lets(own, low, cost, bound)
+}
+
+// Past the parts between: low, or the parts' count where that is less.
+fn between_end(low: usize, count: usize) -> usize
+    ensures { λ r. ⌜ r ≡ min low count ⌝ }
+{
+    if count < low {
+        return count;
+    }
+    low
+}
+
+// The lowest part between with which the cluster evens its own out, or its own. No width is asked: the cluster has none to these parts.
+fn first_even(sums: PartSums, own: usize, low: usize, high: usize, cost: u32, bound: u32) -> usize
+    requires { ⌜ (own < 16) × (sums .count ≤ 16) ⌝ }
+    ensures { λ r. ⌜ EvenPart sums own cost bound low high r ⌝ }
+    ensures { λ r. ⌜ r < 16 ⌝ }
+{
+    let end = between_end(low, sums.count);
+    let mut t = sums.first_even(own, cost, high, end);
     while t < end {
-        let look = worth(sums, own, t, low, high, cost, bound);
-        if look {
+        let allowed = sums.lets(own, t, cost, bound);
+        if allowed {
             return t;
         }
-        t += 1;
+        t = sums.first_even(own, cost, t + 1, end);
     }
-    t
+    own
 }
 
-// Where cluster h goes, by the parts around it. Its widths are looked at where some candidate is worth it. The first pair of links is by the
-// edges' starts, the second by their ends; here and below.
+// Where cluster h goes, by the parts around it. Only at the two ends of the range can it gain, so that its widths are looked at where one of these is
+// allowed; else it stays where it has width to its own part, and may even out where it has none. The first pair of links is by the edges'
+// starts, the second by their ends; here and below.
 fn decide(
     from: &[u16],
     to: &[u16],
@@ -198,13 +204,22 @@ fn decide(
     requires { ⌜ Indexed (now from) (now to) (now head) (now next) (now «head_in») (now «next_in») ⌝ }
     requires { ⌜ Placed (now table) ⌝ }
     requires { ⌜ (h < 512) × (own < 16) × (sums .count ≤ 16) ⌝ }
-    requires { ⌜ Flanks (pullTo (now from) (now to) (now widths) (now table) h) low high ⌝ }
+    requires { ⌜ Around (pullTo (now from) (now to) (now widths) (now table) h) (sums .count) own low high ⌝ }
     ensures { λ r. ⌜ Aims (pullTo (now (from .entry)) (now (to .entry)) (now (widths .entry)) (now (table .entry)) h) sums own cost bound low high r ⌝ }
 {
-    let start = first_worth(sums, own, low, high, cost, bound);
-    let end = parts_end(low, sums.count);
-    if end <= start {
-        return Target { part: own, gain: 0 };
+    let open = end_allowed(sums, own, low, high, cost, bound);
+    if !open {
+        if low == own {
+            return Target { part: own, gain: 0 };
+        }
+        if own + 1 == high {
+            return Target { part: own, gain: 0 };
+        }
+        let even = first_even(sums, own, low, high, cost, bound);
+        return Target {
+            part: even,
+            gain: 0,
+        };
     }
     let mut toward = [0u32; 16];
     neighbours::pulls(
@@ -219,7 +234,7 @@ fn decide(
         h,
         &mut toward,
     );
-    let t = choice(&toward, sums, own, start, end, cost, bound);
+    let t = ends(&toward, sums, own, low, high, cost, bound);
     Target {
         part: t,
         gain: toward[t] - toward[own],
@@ -249,6 +264,7 @@ fn goal(
     requires { ⌜ Placed (now table) ⌝ }
     requires { ⌜ Known (now from) (now to) (now table) (sums .count) (now low) (now high) (now marks) ⌝ }
     requires { ⌜ (h < 512) × (length (now costs) ≡ 512) × (sums .count ≤ 16) ⌝ }
+    requires { ⌜ Seated (now from) (now to) (now table) (sums .count) h ⌝ }
     ensures { λ r. ⌜ Goal (now (from .entry)) (now (to .entry)) (now (widths .entry)) (now (costs .entry)) bound h (now (table .entry)) sums (now (low .exit)) (now (high .exit)) (now (marks .exit)) r ⌝ }
 {
     let own = neighbours::part_at(table, h);
@@ -320,7 +336,7 @@ fn refine_cluster(
     requires { ⌜ Placed (now table) ⌝ }
     requires { ⌜ Known (now from) (now to) (now table) (before .sums .count) (now low) (now high) (now marks) ⌝ }
     requires { ⌜ (h < 512) × (length (now costs) ≡ 512) × (before .sums .count ≤ 16) × (before .moves < 2 ^ 33) ⌝ }
-    requires { ⌜ Paid (now from) (now to) (now widths) (now costs) bound h (workOf (now table) before) ⌝ }
+    requires { ⌜ Visitable (now from) (now to) (now widths) (now costs) bound h (workOf (now table) before) ⌝ }
     ensures { λ r. ⌜ WorkDone (workOf (now (table .entry)) before) (workOf (now (table .exit)) r) 1 (worked (now (from .entry)) (now (to .entry)) (now (widths .entry)) (now (costs .entry)) bound h (workOf (now (table .entry)) before)) ⌝ }
     ensures { λ _. ⌜ Known (now (from .entry)) (now (to .entry)) (now (table .exit)) (before .sums .count) (now (low .exit)) (now (high .exit)) (now (marks .exit)) ⌝ }
 {
@@ -362,7 +378,8 @@ fn refine_cluster(
     }
 }
 
-// A pass: visits the clusters below g in number order. What each visit gains is in the cut: the caller says so, who knows whose cut it is.
+// A pass: visits the clusters below g in number order. What each visit gains is in the cut, and no edge goes backward: the caller says so, who knows
+// whose cut and table they are.
 pub fn pass(
     from: &[u16],
     to: &[u16],
@@ -385,7 +402,7 @@ pub fn pass(
     requires { ⌜ Placed (now table) ⌝ }
     requires { ⌜ Known (now from) (now to) (now table) (before .sums .count) (now low) (now high) (now marks) ⌝ }
     requires { ⌜ (g ≤ 512) × (length (now costs) ≡ 512) × (before .sums .count ≤ 16) × (before .moves < 2 ^ 32) ⌝ }
-    requires { ⌜ ((i : ℕ) → i < g → Paid (now from) (now to) (now widths) (now costs) bound i (turns i (worked (now from) (now to) (now widths) (now costs) bound) (begun (workOf (now table) before)))) ⌝ }
+    requires { ⌜ ((i : ℕ) → i < g → Visitable (now from) (now to) (now widths) (now costs) bound i (turns i (worked (now from) (now to) (now widths) (now costs) bound) (begun (workOf (now table) before)))) ⌝ }
     ensures { λ r. ⌜ WorkDone (workOf (now (table .entry)) before) (workOf (now (table .exit)) r) g (turns g (worked (now (from .entry)) (now (to .entry)) (now (widths .entry)) (now (costs .entry)) bound) (begun (workOf (now (table .entry)) before))) ⌝ }
     ensures { λ _. ⌜ Known (now (from .entry)) (now (to .entry)) (now (table .exit)) (before .sums .count) (now (low .exit)) (now (high .exit)) (now (marks .exit)) ⌝ }
 {

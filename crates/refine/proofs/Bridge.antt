@@ -9,9 +9,9 @@ use lib.IntN.{pos}
 use lib.Signed.{ltZ}
 use lib.ListN.{length, getD, set}
 use lib.Seq.{getD-set-same, getD-set-other}
-use borrow.Author.Tests.{eqb-true, eq-eqb, ne-eqb, ltb-true, leb-true, lt-ltb, le-ltb}
+use borrow.Author.Tests.{eqb-true, eq-eqb, ne-eqb, ltb-true, lt-ltb, le-ltb}
 use Rattle.folds.specs.Fold.{pick, when, sumTo, anyTo, turns}
-use Rattle.folds.proofs.Cases.{by, both, either, eq-or-ne, same-test}
+use Rattle.folds.proofs.Cases.{by, either, eq-or-ne, same-test}
 use Rattle.folds.proofs.Sums.{sumTo-ext, sumTo-add, sumTo-none, sumTo-member}
 use Rattle.folds.proofs.Searches.{any-e, any-none}
 use Rattle.folds.proofs.Lists.{listTo-ext}
@@ -19,18 +19,21 @@ use Rattle.folds.proofs.Best.{best-alike}
 use Rattle.graph.specs.Graph.{Graph, vertices, cutOf, costIn, partCost, through, RowOf, Proper}
 use Rattle.graph.specs.Coarse.{Coarse}
 use Rattle.graph.specs.Rows.{clusters}
+use Rattle.graph.specs.Table.{placeAt, Good}
 use Rattle.graph.proofs.Edges.{through-at, length-through}
 use Rattle.graph.proofs.Tables.{size-cost}
 use Rattle.refinement.specs.Move.{movedTo, partOf, pull, gainTo}
 use Rattle.refinement.specs.Pass.{lowestNext, aboveBefore, stays, allows, isCandidate, improves, target, Tally, settledAt, visited, passOf}
-use Rattle.refinement.proofs.Visits.{target-improves}
-use Rattle.refinement.proofs.Move.{cut-move, cost-new, cost-old, cost-third}
+use Rattle.refinement.specs.Entries.{stateOf, GoodAt}
+use Rattle.refinement.proofs.Visits.{target-improves, above-le, low-ge}
+use Rattle.refinement.proofs.Own.{turn-steps, steps-good}
+use Rattle.refinement.proofs.Move.{leaves-e, cut-move, cost-new, cost-old, cost-third}
 use Rattle.refinement.proofs.Gains.{gain-less, gain-above, improves-pull}
 use Rattle.refinement.proofs.Spread.{even-sums}
-use Rattle.refinement.proofs.Entries.{first-of, moved-at}
-use Rattle.neighbours.specs.Visit.{Placed, pullTo}
+use Rattle.refinement.proofs.Entries.{alone, first-of, moved-at}
+use Rattle.neighbours.specs.Visit.{Placed, pullTo, Seated}
 use Rattle.part_sums.specs.Sums.{SumsOf, sizeAllowed, sumsAllow, sumsEven}
-use Rattle.pass.specs.Work.{gainsBy, openOf, choiceOf, Work, begun, choiceAt, gainAt, movedBy, worked, Paid}
+use Rattle.pass.specs.Work.{gainsBy, openOf, choiceOf, Work, begun, choiceAt, gainAt, movedBy, worked, Paid, Visitable}
 use Rattle.part_sums.proofs.Sums.{shifted-sums}
 use Rattle.pass.proofs.Work.{placed-set, choice-below, choice-ext}
 use Rattle.refine.specs.Rung.{Tracks}
@@ -212,9 +215,26 @@ module _ (G : Graph) (P : Proper G) (k bound : ℕ) (row costs froms tos widths 
       (λ e. let l = ltb-true 0 (pull G row parts h t - pull G row parts h own) e in lt-ltb (pull G row parts h own) (pull G row parts h t) (omega arith))
       (λ e. let l = ltb-true (pull G row parts h own) (pull G row parts h t) e in lt-ltb 0 (pull G row parts h t - pull G row parts h own) (omega arith)))
 
-  pub worked-paid : Paid froms tos widths costs bound h w
+  worked-paid : Paid froms tos widths costs bound h w
   unfolding Paid gainAt parts own
   worked-paid = rw choice-target (omega (arith, cut-falls (target G k bound row parts h), gains, T .cut-is))
+
+  -- on a good table no edge goes backward
+  seated : Good G k bound row parts → Seated froms tos (w .table) (w .sums .count) h
+  unfolding placeAt parts own
+  seated I =
+      record {
+        inside = let (v, l, e) = some in omega (arith, all v l e, I .below v l, R .counts);
+        after = rw (high-lists lists (P .formed) row-of (P .wide) (w .table) h)
+            (above-le G row parts h own (λ j l q. omega (arith, I .forward j l, all _ (P .formed .end-in j l) (leaves-e row (G .ends) (G .starts) h j q .0))));
+        before = rw (low-lists lists (P .formed) row-of (P .wide) (w .table) h (w .sums .count))
+            (low-ge G row parts h (w .sums .count) own (let (v, l, e) = some in omega (arith, all v l e, I .below v l, R .counts))
+            (λ j l q. omega (arith, I .forward j l, all _ (P .formed .start-in j l) (leaves-e row (G .starts) (G .ends) h j q .0))));
+      }
+
+  pub worked-visitable : Good G k bound row (through row (w .table)) → Visitable froms tos widths costs bound h w
+  unfolding parts
+  worked-visitable I = record { paid = worked-paid; seated = seated I }
 
   cut-left : w .cut - gainAt froms tos widths h (w .table) (target G k bound row parts h) ≡ cutOf G (movedTo row h (target G k bound row parts h) parts)
   unfolding gainAt parts own
@@ -245,6 +265,10 @@ module _ (G : Graph) (P : Proper G) (k bound : ℕ) (row costs froms tos widths 
       low : t < 16
       low = rw (← choice-target) choice-low
 
+-- one row by itself
+pub good-here : {G : Graph} {k bound : ℕ} {row parts : List ℕ} → Good G k bound row parts → GoodAt G k bound (λ r. row) 0 (stateOf 0 parts)
+good-here I = record { kept = omega arith; table = I }
+
 -- what the code has of a rung: a row with a vertex in each of its clusters, the clusters' costs, and the lists of their edges
 pub record Drawn (G : Graph) (row costs froms tos widths : List ℕ) : Type 0 where
   pub row-of : RowOf G row (clusters row)
@@ -271,8 +295,11 @@ module _ (G : Graph) (P : Proper G) (k bound : ℕ) (few : k ≤ 16) (row costs 
     unfolding passOf
     pass-follows = turns-visited (clusters row) (omega arith) (begun w) (tallied row (begun w)) begins
 
-    -- each visit of it finds its gain in the cut
-    pub pass-paid : (i : ℕ) → i < clusters row → Paid froms tos widths costs bound i (turns i (worked froms tos widths costs bound) (begun w))
-    pass-paid i l =
+    -- each visit of it finds its gain in the cut, and its cluster between its neighbours
+    pub pass-visitable : Good G k bound row (through row (w .table)) → (i : ℕ) → i < clusters row → Visitable froms tos widths costs bound i (turns i (worked froms tos widths costs bound) (begun w))
+    pass-visitable I i l =
         let g = turns-visited i (omega arith) (begun w) (tallied row (begun w)) begins in
-        worked-paid G P k bound row costs froms tos widths (R .row-of) (R .lists) few i l (omega (arith, R .few)) (R .cost i l) (R .onto i l) _ (g .placed) (g .tracks)
+        let steps = turn-steps G P k bound (λ r. row) 0 (alone row (R .row-of .whole)) 0 i (tallied row (begun w)) (omega arith) .steps in
+        let J = steps-good G P k bound (λ r. row) 0 (alone row (R .row-of .whole)) {s = tallied row (begun w)} (good-here I) steps .table in
+        worked-visitable G P k bound row costs froms tos widths (R .row-of) (R .lists) few i l (omega (arith, R .few)) (R .cost i l) (R .onto i l) _ (g .placed) (g .tracks)
+        (rw (ap (λ (t : Tally). t .parts) (g .is)) J)

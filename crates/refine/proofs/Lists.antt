@@ -9,13 +9,13 @@ use lib.ListN.{length, getD}
 use borrow.Author.Tests.{eqb-true, eqb-false, eq-eqb, ne-eqb}
 use Rattle.folds.specs.Fold.{when, sumTo, turns}
 use Rattle.folds.proofs.Cases.{by, either, eq-or-ne, both, not-yes}
+use Rattle.folds.proofs.Best.{choose, choose-of}
 use Rattle.folds.proofs.Sums.{sumTo-ext}
 use Rattle.graph.specs.Graph.{Graph, edges, via, through, Formed, RowOf}
 use Rattle.graph.specs.Coarse.{Coarse}
 use Rattle.graph.proofs.Edges.{through-at}
 use Rattle.graph.proofs.Coarse.{coarse-sum, listed-edge, edge-listed}
 use Rattle.refinement.specs.Move.{leaves, share, pull}
-use Rattle.refinement.proofs.Visits.{choose, best-of}
 use Rattle.refinement.specs.Pass.{lowered, raised, lowestNext, aboveBefore}
 use Rattle.neighbours.specs.Visit.{lowerBy, raiseBy, widthTo, lowNext, highBefore, pullTo}
 
@@ -40,8 +40,8 @@ module _ (better : ℕ → ℕ → ℕ) (R : ℕ → ℕ → Type 0) (self : (a 
       → ((i : ℕ) → i < n → q i ≡ true → (j : ℕ) × (j < m) × (p j ≡ true) × (f j ≡ g i)) → choose p f better s m ≡ choose q g better s n
   best-same p q f g s m n there back =
       same _ _
-      (best-nearest q g s _ n (best-start p f s m) (λ i l t. let (j, lj, tj, e) = back i l t in rw (← e) (best-of p f better s R trans left right m j lj tj)))
-      (best-nearest p f s _ m (best-start q g s n) (λ j l t. let (i, li, ti, e) = there j l t in rw (← e) (best-of q g better s R trans left right n i li ti)))
+      (best-nearest q g s _ n (best-start p f s m) (λ i l t. let (j, lj, tj, e) = back i l t in rw (← e) (choose-of p f better s R trans left right m j lj tj)))
+      (best-nearest p f s _ m (best-start q g s n) (λ j l t. let (i, li, ti, e) = there j l t in rw (← e) (choose-of q g better s R trans left right n i li ti)))
 
 -- one way along the edges: near to far in the graph, from to onto in the lists
 module _ (row near far from onto table : List ℕ) (m n h : ℕ) (inside : (j : ℕ) → j < m → getD far j 0 < length row) (apart : (i : ℕ) → i < n → getD from i 0 ≡ getD onto i 0 → ⊥)

@@ -20,7 +20,6 @@ use Rattle.graph.proofs.Totals.{totals-cost}
 use Rattle.graph.proofs.Rows.{onto-few}
 use Rattle.graph.specs.Graph.{cutOf}
 use Rattle.graph.specs.Table.{Good}
-use Rattle.refinement.specs.Entries.{stateOf, GoodAt}
 use Rattle.refinement.specs.Pass.{Tally, tallyOf, passOf, measure, passes, repeated, refinedOn}
 use Rattle.refinement.proofs.Entries.{alone}
 use Rattle.refinement.proofs.Own.{pass-steps, pass-falls, steps-good, steps-fall}
@@ -31,11 +30,7 @@ use Rattle.pass.specs.Work.{Work, begun, worked}
 use Rattle.refine.specs.Tables.{Shared, Inherits}
 use Rattle.refine.specs.Rung.{RowReady, Tracks, Settled, RefinedRow}
 use Rattle.refine.proofs.Tables.{inherits-through}
-use Rattle.refine.proofs.Bridge.{tallied, Follows, Drawn, pass-follows}
-
--- one row by itself
-good-here : {G : Graph} {k bound : ℕ} {row parts : List ℕ} → Good G k bound row parts → GoodAt G k bound (λ r. row) 0 (stateOf 0 parts)
-good-here I = record { kept = omega arith; table = I }
+use Rattle.refine.proofs.Bridge.{tallied, Follows, good-here, Drawn, pass-follows}
 
 -- some number of passes, which is enough, makes R of s
 pub record Going (G : Graph) (k bound : ℕ) (row : List ℕ) (s R : Tally) : Type 0 where
@@ -148,7 +143,7 @@ module _ {G : Graph} {k bound : ℕ} {row parts : List ℕ} {moves : ℕ} (A : R
       record { row-of = A .row-of; few = ready-few; onto = A .onto; cost = λ c l. totals-cost row (G .costs) s c (omega (arith, ready-few)); lists = C }
 
   pub ready-listed : {froms tos widths : List ℕ} → Coarse G row (clusters row) froms tos widths → Listed froms tos widths
-  ready-listed C = record { ends = coarse-ended C ready-few; same-widths = C .same-widths; narrow = C .narrow }
+  ready-listed C = record { ends = coarse-ended C ready-few; same-widths = C .same-widths; narrow = C .narrow; wide = C .wide }
 
   low : (v : ℕ) → v < length row → getD row v 0 < 512
   low v l = omega (arith, A .row-of .below v (omega (arith, A .row-of .whole)), ready-few)

@@ -138,7 +138,7 @@ module _ (G : Graph) (P : Proper G) (k bound : ℕ) (rows : ℕ → List ℕ) (t
         falls = λ I. omega (arith, move-falls G P k bound rows top H (stateOf r (s .parts)) I h t (w .0) (w .1));
       })))
 
-  turn-steps : (r i : ℕ) (s : Tally) → i ≤ clusters (rows r) → Visits r (turnMoves G k bound (rows r) i s) s (turns i (visited G k bound (rows r)) s)
+  pub turn-steps : (r i : ℕ) (s : Tally) → i ≤ clusters (rows r) → Visits r (turnMoves G k bound (rows r) i s) s (turns i (visited G k bound (rows r)) s)
   unfolding turns turnMoves
   turn-steps r zero s l = visits-none r s
   turn-steps r (suc i) s l = visits-join (turn-steps r i s (omega arith)) (visit-steps r i (turns i (visited G k bound (rows r)) s) l)

@@ -1,84 +1,52 @@
 -- A visit takes what document 02, a says, and that is one part.
-use Prim.Native.Nat.{ℕ, zero, suc, _+_, _-_, _≤_, _<_, min, max}
+use Prim.Native.Nat.{ℕ, _+_, _≤_, _<_, min, max}
 use mathlib.Core.Path.{_≡_, refl, sym, _∙_}
 use mathlib.Core.Bool.{Bool, true, false, not, _&&_}
 use mathlib.Core.Logic.{_⊎_, inl, inr}
 use mathlib.Core.List.{List}
-use native.Mathlib.Nat.{not-suc-le-zero}
 use native.Mathlib.Omega.{arith}
 use lib.Dec.{eqb, ltb, leb}
 use lib.IntN.{pos}
 use lib.Signed.{ltZ}
 use lib.ListN.{getD}
 use borrow.Author.Tests.{eqb-true, eqb-false, eq-eqb, ne-eqb, ltb-true, ltb-false, leb-true, lt-ltb, le-ltb, le-leb}
-use Rattle.folds.specs.Fold.{pick, turns}
-use Rattle.folds.proofs.Cases.{no-bool, by, either, eq-or-ne, both, both-i, one-of, or-l, or-r, not-yes, last-or}
-use Rattle.folds.proofs.Best.{Best, best-to}
+use Rattle.folds.proofs.Cases.{no-bool, by, either, both, both-i, one-of, or-l, or-r, not-yes}
+use Rattle.folds.proofs.Best.{Best, best-to, choose-is, choose-of, min-one, max-one}
 use Rattle.folds.proofs.Searches.{any-i, any-e}
 use Rattle.graph.specs.Graph.{Graph, vertices, edges, via}
 use Rattle.graph.specs.Rows.{clusters}
 use Rattle.graph.specs.Table.{partSize}
 use Rattle.refinement.specs.Move.{movedTo, partOf, leaves, pull, gainTo, Candidate, Stays, Allowed, Gains, Balances, Improves}
 use Rattle.refinement.specs.Pass.{lowered, raised, lowestNext, aboveBefore, stays, allows, isCandidate, improves, target}
-use Rattle.refinement.specs.Own.{GainsMost, EvensOut, Remains, Taken}
+use Rattle.refinement.specs.Own.{GainsMost, EvensOut, Taken}
 use Rattle.refinement.proofs.Gains.{gain-less, gain-above, zero-gain, gain-zero}
-
--- the best of s and of f at the numbers below m that have p
-abbrev pub choose : (ℕ → Bool) → (ℕ → ℕ) → (ℕ → ℕ → ℕ) → ℕ → ℕ → ℕ
-choose p f better s m = turns m (λ j t. pick (p j) (better t (f j)) t) s
-
--- by any `better` that is one of the two, and no worse than either
-module _ (p : ℕ → Bool) (f : ℕ → ℕ) (better : ℕ → ℕ → ℕ) (s : ℕ) where
-  best-is : ((a b : ℕ) → (better a b ≡ a) ⊎ (better a b ≡ b)) → (m : ℕ)
-      → (choose p f better s m ≡ s) ⊎ ((j : ℕ) × (j < m) × (p j ≡ true) × (f j ≡ choose p f better s m))
-  unfolding turns
-  best-is one zero = inl refl
-  best-is one (suc m) =
-      either (best-is one m)
-      (λ e. by (p m) (λ q. rw q (either (one b (f m)) (λ w. inl (w ∙ e)) (λ w. inr (m, omega arith, q, sym w)))) (λ q. rw q (inl e)))
-      (λ w. by (p m)
-      (λ q. rw q (either (one b (f m)) (λ x. inr (w .0, omega arith, w .2, w .3 ∙ sym x)) (λ x. inr (m, omega arith, q, sym x))))
-      (λ q. rw q (inr (w .0, omega arith, w .2, w .3))))
-    where
-      b : ℕ
-      b = choose p f better s m
-
-  module _ (R : ℕ → ℕ → Type 0) (trans : (a b c : ℕ) → R a b → R b c → R a c) (left : (a b : ℕ) → R (better a b) a) (right : (a b : ℕ) → R (better a b) b) where
-    pub best-of : (m j : ℕ) → j < m → p j ≡ true → R (choose p f better s m) (f j)
-    unfolding turns
-    best-of zero j l q = absurd (not-suc-le-zero l)
-    best-of (suc m) j l q =
-        either (last-or l) (λ e. rw (← e, q) (right _ (f j)))
-        (λ h. by (p m) (λ x. rw x (trans _ b _ (left b (f m)) (best-of m j h q))) (λ x. rw x (best-of m j h q)))
-      where
-        b : ℕ
-        b = choose p f better s m
-
-min-one : (a b : ℕ) → (min a b ≡ a) ⊎ (min a b ≡ b)
-min-one a b = either (eq-or-ne (min a b) a) inl (λ n. inr (omega arith))
-
-max-one : (a b : ℕ) → (max a b ≡ a) ⊎ (max a b ≡ b)
-max-one a b = either (eq-or-ne (max a b) a) inl (λ n. inr (omega arith))
 
 module _ (G : Graph) (row parts : List ℕ) (h : ℕ) where
   -- the highest part of the predecessors: that of one of them, and no lower than any
   above-is : (aboveBefore G row parts h ≡ 0) ⊎ ((j : ℕ) × (j < edges G) × (leaves row (G .ends) (G .starts) h j ≡ true) × (via parts (G .starts) j + 1 ≡ aboveBefore G row parts h))
   unfolding aboveBefore raised
-  above-is = best-is (leaves row (G .ends) (G .starts) h) (λ j. via parts (G .starts) j + 1) max 0 max-one (edges G)
+  above-is = choose-is (leaves row (G .ends) (G .starts) h) (λ j. via parts (G .starts) j + 1) max 0 max-one (edges G)
 
   above-of : (j : ℕ) → j < edges G → leaves row (G .ends) (G .starts) h j ≡ true → via parts (G .starts) j + 1 ≤ aboveBefore G row parts h
   unfolding aboveBefore raised
   above-of =
-      best-of (leaves row (G .ends) (G .starts) h) (λ j. via parts (G .starts) j + 1) max 0 (λ a b. b ≤ a) (λ a b c x y. omega arith) (λ a b. omega arith) (λ a b. omega arith) (edges G)
+      choose-of (leaves row (G .ends) (G .starts) h) (λ j. via parts (G .starts) j + 1) max 0 (λ a b. b ≤ a) (λ a b c x y. omega arith) (λ a b. omega arith) (λ a b. omega arith) (edges G)
 
   -- the lowest part of the successors
   low-is : (k : ℕ) → (lowestNext G k row parts h ≡ k) ⊎ ((j : ℕ) × (j < edges G) × (leaves row (G .starts) (G .ends) h j ≡ true) × (via parts (G .ends) j ≡ lowestNext G k row parts h))
   unfolding lowestNext lowered
-  low-is k = best-is (leaves row (G .starts) (G .ends) h) (via parts (G .ends)) min k min-one (edges G)
+  low-is k = choose-is (leaves row (G .starts) (G .ends) h) (via parts (G .ends)) min k min-one (edges G)
 
   low-of : (k j : ℕ) → j < edges G → leaves row (G .starts) (G .ends) h j ≡ true → lowestNext G k row parts h ≤ via parts (G .ends) j
   unfolding lowestNext lowered
-  low-of k = best-of (leaves row (G .starts) (G .ends) h) (via parts (G .ends)) min k (λ a b. a ≤ b) (λ a b c x y. omega arith) (λ a b. omega arith) (λ a b. omega arith) (edges G)
+  low-of k = choose-of (leaves row (G .starts) (G .ends) h) (via parts (G .ends)) min k (λ a b. a ≤ b) (λ a b c x y. omega arith) (λ a b. omega arith) (λ a b. omega arith) (edges G)
+
+  -- a part that no predecessor is above, and none that a successor is below
+  pub above-le : (t : ℕ) → ((j : ℕ) → j < edges G → leaves row (G .ends) (G .starts) h j ≡ true → via parts (G .starts) j ≤ t) → aboveBefore G row parts h ≤ t + 1
+  above-le t f = either above-is (λ e. omega arith) (λ w. omega (arith, f (w .0) (w .1) (w .2), w .3))
+
+  pub low-ge : (k t : ℕ) → t ≤ k → ((j : ℕ) → j < edges G → leaves row (G .starts) (G .ends) h j ≡ true → t ≤ via parts (G .ends) j) → t ≤ lowestNext G k row parts h
+  low-ge k t l f = either (low-is k) (λ e. omega arith) (λ w. omega (arith, f (w .0) (w .1) (w .2), w .3))
 
   stays-found : stays G row parts h ≡ true → Stays G row parts h
   unfolding stays
@@ -107,9 +75,7 @@ module _ (G : Graph) (row parts : List ℕ) (h : ℕ) where
   candidate-test : (k t : ℕ) → Candidate G k row parts h t → isCandidate G k row parts h t ≡ true
   unfolding isCandidate
   candidate-test k t c =
-      let x : aboveBefore G row parts h ≤ t + 1 = either above-is (λ e. omega arith) (λ w. omega (arith, c .low (w .0) (w .1) (w .2), w .3)) in
-      let y : t ≤ lowestNext G k row parts h = either (low-is k) (λ e. omega (arith, c .below)) (λ w. omega (arith, c .high (w .0) (w .1) (w .2), w .3)) in
-      rw (le-leb _ _ x, le-leb _ _ y, ne-eqb _ _ (c .other))
+      rw (le-leb _ _ (above-le t (c .low)), le-leb _ _ (low-ge k t (omega (arith, c .below)) (c .high)), ne-eqb _ _ (c .other))
 
   improves-found : (t : ℕ) → improves G row parts h t ≡ true → Improves G row parts h t
   unfolding improves

@@ -15,7 +15,7 @@ refine-cluster-spec =
     (λ c. search needs)
     (λ c. let p = c .before .before .before .before .before .pre .1 .1 in (done-closed _ _ _ _ _ _ _ (p .1 .1 .0 .0) (p .0) (p .1 .0) (c .if1 .taken), p .1 .0))
     (λ c κs. let p = c .before .before .before .before .before .before .before .pre .1 .1 in (p .0, p .1 .1 .0 .0))
-    (λ c κs. let p = c .before .before .before .before .before .before .before .before .before .before .before .before .pre in (p .0, (p .1 .0, (p .1 .1 .0, (p .1 .1 .1 .0, (p .1 .1 .1 .1 .0 .0, p .1 .1 .1 .1 .0 .1, p .1 .1 .1 .1 .0 .2))))))
+    (λ c κs. let p = c .before .before .before .before .before .before .before .before .before .before .before .before .pre in (p .0, (p .1 .0, (p .1 .1 .0, (p .1 .1 .1 .0, ((p .1 .1 .1 .1 .0 .0, p .1 .1 .1 .1 .0 .1, p .1 .1 .1 .1 .0 .2), p .1 .1 .1 .1 .1 .seated))))))
     (λ c. let p = c .before .before .before .before .before .before .before .before .before .before .before .before .before .before .pre in
     let o = c .before .before .before .before .before .before .part-at .ensures in
     let G = c .before .goal .ensures in

@@ -1,6 +1,6 @@
 -- The work stands on its way to what the passes make of the table; a pass that moves something lowers the measure.
 use Rattle.refine.proofs.Rung.{Stands, coarse-indexed, ready-few, ready-keyed, ready-drawn, ready-listed, ready-stands, stands-fall, stands-turn, stands-end}
-use Rattle.refine.proofs.Bridge.{Drawn, pass-paid}
+use Rattle.refine.proofs.Bridge.{Drawn, pass-visitable}
 use Rattle.pass.specs.Work.{workOf}
 use Rattle.graph.proofs.Totals.{zero-sums}
 use Rattle.neighbours.specs.Visit.{Indexed}
@@ -45,7 +45,7 @@ settle-spec =
     let A = p .1 .1 .0 in
     let i = c .before .before .before .before .before .before .before .loop .inv in
     let k = i .4 .tracks .sums .counts in
-    (ready-listed A (p .1 .1 .1 .0), (i .2, (i .4 .placed, (rw k (i .5), ((omega (arith, ready-few A), i .1, omega (arith, k, A .few), omega (arith, i .4 .room)), λ j l. pass-paid _ (A .proper) _ _ (A .few) _ _ _ _ _ (i .3) (workOf (c .before .before .before .before .before .before .before .loop .table) (c .before .before .before .before .before .before .before .loop .p)) (i .4 .tracks) (i .4 .placed) j (omega (arith, i .0))))))))
+    (ready-listed A (p .1 .1 .1 .0), (i .2, (i .4 .placed, (rw k (i .5), ((omega (arith, ready-few A), i .1, omega (arith, k, A .few), omega (arith, i .4 .room)), λ j l. pass-visitable _ (A .proper) _ _ (A .few) _ _ _ _ _ (i .3) (workOf (c .before .before .before .before .before .before .before .loop .table) (c .before .before .before .before .before .before .before .loop .p)) (i .4 .tracks) (i .4 .placed) (i .4 .good) j (omega (arith, i .0))))))))
     (λ c. let A = c .before .before .before .before .before .before .before .before .before .before .before .before .before .before .before .before .before .before .before .before .before .before .before .before .before .before .before .before .before .before .before .pre .1 .1 .0 in
     let i = c .before .before .before .before .before .before .before .before .before .before .loop .inv in
     let d = c .before .before .pass .ensures .0 in
