@@ -1,5 +1,5 @@
--- The lowest of the largest of the numbers below n that have p; the best of what a function gives at them.
-use Prim.Native.Nat.{ℕ, zero, suc, _+_, _≤_, _<_, min, max}
+-- The lowest of the largest of the numbers below n that have p.
+use Prim.Native.Nat.{ℕ, zero, suc, _≤_, _<_}
 use mathlib.Core.Path.{_≡_, refl, sym, _∙_}
 use mathlib.Core.Bool.{Bool, true, false, _&&_, _||_}
 use mathlib.Core.Logic.{_⊎_, inl, inr}
@@ -7,8 +7,8 @@ use native.Mathlib.Nat.{not-suc-le-zero}
 use native.Mathlib.Omega.{arith}
 use lib.Dec.{eqb}
 use borrow.Author.Tests.{eq-eqb, ne-eqb}
-use Rattle.folds.specs.Fold.{pick, turns, bestTo}
-use Rattle.folds.proofs.Cases.{no-bool, by, both, either, eq-or-ne, last-or}
+use Rattle.folds.specs.Fold.{turns, bestTo}
+use Rattle.folds.proofs.Cases.{no-bool, by, both, either, last-or}
 use Rattle.folds.proofs.Loops.{turns-zero, turns-skip}
 
 pub record Best (n : ℕ) (p : ℕ → Bool) (less : ℕ → ℕ → Bool) (r : ℕ) : Type 0 where
@@ -90,40 +90,3 @@ module _ (p : ℕ → Bool) (less : ℕ → ℕ → Bool) (s : ℕ) (out : p s �
     where
       b : ℕ
       b = bestTo n p less s
-
--- the best of s and of f at the numbers below m that have p
-abbrev pub choose : (ℕ → Bool) → (ℕ → ℕ) → (ℕ → ℕ → ℕ) → ℕ → ℕ → ℕ
-choose p f better s m = turns m (λ j t. pick (p j) (better t (f j)) t) s
-
--- by any `better` that is one of the two, and no worse than either
-module _ (p : ℕ → Bool) (f : ℕ → ℕ) (better : ℕ → ℕ → ℕ) (s : ℕ) where
-  pub choose-is : ((a b : ℕ) → (better a b ≡ a) ⊎ (better a b ≡ b)) → (m : ℕ)
-      → (choose p f better s m ≡ s) ⊎ ((j : ℕ) × (j < m) × (p j ≡ true) × (f j ≡ choose p f better s m))
-  unfolding turns
-  choose-is one zero = inl refl
-  choose-is one (suc m) =
-      either (choose-is one m)
-      (λ e. by (p m) (λ q. rw q (either (one b (f m)) (λ w. inl (w ∙ e)) (λ w. inr (m, omega arith, q, sym w)))) (λ q. rw q (inl e)))
-      (λ w. by (p m)
-      (λ q. rw q (either (one b (f m)) (λ x. inr (w .0, omega arith, w .2, w .3 ∙ sym x)) (λ x. inr (m, omega arith, q, sym x))))
-      (λ q. rw q (inr (w .0, omega arith, w .2, w .3))))
-    where
-      b : ℕ
-      b = choose p f better s m
-
-  module _ (R : ℕ → ℕ → Type 0) (trans : (a b c : ℕ) → R a b → R b c → R a c) (left : (a b : ℕ) → R (better a b) a) (right : (a b : ℕ) → R (better a b) b) where
-    pub choose-of : (m j : ℕ) → j < m → p j ≡ true → R (choose p f better s m) (f j)
-    unfolding turns
-    choose-of zero j l q = absurd (not-suc-le-zero l)
-    choose-of (suc m) j l q =
-        either (last-or l) (λ e. rw (← e, q) (right _ (f j)))
-        (λ h. by (p m) (λ x. rw x (trans _ b _ (left b (f m)) (choose-of m j h q))) (λ x. rw x (choose-of m j h q)))
-      where
-        b : ℕ
-        b = choose p f better s m
-
-pub min-one : (a b : ℕ) → (min a b ≡ a) ⊎ (min a b ≡ b)
-min-one a b = either (eq-or-ne (min a b) a) inl (λ n. inr (omega arith))
-
-pub max-one : (a b : ℕ) → (max a b ≡ a) ⊎ (max a b ≡ b)
-max-one a b = either (eq-or-ne (max a b) a) inl (λ n. inr (omega arith))

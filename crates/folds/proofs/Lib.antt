@@ -7,3 +7,4 @@ pub mod Slices
 pub mod Counts
 pub mod Parts
 pub mod Best
+pub mod Choose

@@ -10,7 +10,7 @@ use lib.ListN.{length, getD, set, length-set, replicate, getD-replicate}
 use borrow.Author.Tests.{eqb-true, eq-eqb, ne-eqb}
 use Rattle.folds.specs.Fold.{when, sumTo, turns, mostWidth}
 use Rattle.folds.proofs.Cases.{by, either, when-le}
-use Rattle.folds.proofs.Best.{choose-is, choose-of, min-one, max-one}
+use Rattle.folds.proofs.Choose.{choose-is, choose-of, min-one, max-one}
 use Rattle.folds.proofs.Lists.{set-add}
 use Rattle.folds.proofs.Sums.{sumTo-step, sumTo-less, sumTo-mono, sumTo-none, sumTo-member}
 use Rattle.graph.specs.Graph.{via}

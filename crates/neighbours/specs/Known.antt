@@ -1,8 +1,9 @@
 -- What is known of the clusters from one visit to the next: for each the lowest part of a successor, one more than the highest of a
 -- predecessor, and a mark. 0: no candidate is open to it. 1: the two numbers are right. 2: an end of its edges has moved since.
-use Prim.Native.Nat.{ℕ, _+_, _≤_, _<_}
+use Prim.Native.Nat.{ℕ, _+_, _≤_, _<_, min, max}
 use mathlib.Core.Path.{_≡_}
 use mathlib.Core.Bool.{Bool, false, _&&_, _||_}
+use mathlib.Core.Logic.{_⊎_}
 use mathlib.Core.List.{List}
 use lib.Dec.{ltb, leb}
 use lib.ListN.{length, getD}
@@ -27,11 +28,16 @@ pub record Fresh (froms tos table : List ℕ) (k h : ℕ) (low high marks : List
   pub known : Known froms tos table k low high marks
   pub right : getD marks h 0 ≡ 2 → ⊥
 
--- the marks after a move of h: 2 at its successors and predecessors; one that is not 2 is as it was
-pub record Roused (froms tos : List ℕ) (h : ℕ) (marks marks′ : List ℕ) : Type 0 where
+-- the number of cluster c is one from first to last
+unfoldable pub among : List ℕ → ℕ → ℕ → ℕ → Bool
+among numbers first last c = leb first (getD numbers c 0) && leb (getD numbers c 0) last
+
+-- the marks after a move of h from part own to part t: 2 at its successors and predecessors, but where their number is beyond both parts, so that
+-- another neighbour gives it; a mark that is not 2 is as it was
+pub record Roused (froms tos : List ℕ) (h own t : ℕ) (low high marks marks′ : List ℕ) : Type 0 where
   pub long : length marks′ ≡ 512
-  pub next : (i : ℕ) → i < length froms → getD froms i 0 ≡ h → getD marks′ (getD tos i 0) 0 ≡ 2
-  pub before : (i : ℕ) → i < length froms → getD tos i 0 ≡ h → getD marks′ (getD froms i 0) 0 ≡ 2
+  pub next : (i : ℕ) → i < length froms → getD froms i 0 ≡ h → (getD marks′ (getD tos i 0) 0 ≡ 2) ⊎ (among high 0 (max (own + 1) t) (getD tos i 0) ≡ false)
+  pub before : (i : ℕ) → i < length froms → getD tos i 0 ≡ h → (getD marks′ (getD froms i 0) 0 ≡ 2) ⊎ (among low (min own (t + 1)) 16 (getD froms i 0) ≡ false)
   pub others : (c : ℕ) → (getD marks′ c 0 ≡ 2 → ⊥) → getD marks′ c 0 ≡ getD marks c 0
 
 -- What the loops have done so far.
@@ -48,8 +54,8 @@ pub record Opened (table low high : List ℕ) (k g : ℕ) (marks : List ℕ) : T
   pub is : (c : ℕ) → c < g → getD marks c 0 ≡ when (openTo (getD table c 0) (getD low c 0) (getD high c 0) k) 1
   pub rest : (c : ℕ) → g ≤ c → c < 512 → getD marks c 0 ≡ 2
 
--- the marks after a walk along the first m edges whose near end is h: those at the far ends are 2
-pub record Staled (near far : List ℕ) (h m : ℕ) (marks marks′ : List ℕ) : Type 0 where
+-- the marks after a walk along the first m edges whose near end is h: those at the far ends are 2 where the number there is one from first to last
+pub record Staled (near far numbers : List ℕ) (first last h m : ℕ) (marks marks′ : List ℕ) : Type 0 where
   pub long : length marks′ ≡ 512
-  pub far-ends : (i : ℕ) → i < m → getD near i 0 ≡ h → getD marks′ (getD far i 0) 0 ≡ 2
+  pub far-ends : (i : ℕ) → i < m → getD near i 0 ≡ h → (getD marks′ (getD far i 0) 0 ≡ 2) ⊎ (among numbers first last (getD far i 0) ≡ false)
   pub others : (c : ℕ) → (getD marks′ c 0 ≡ 2 → ⊥) → getD marks′ c 0 ≡ getD marks c 0

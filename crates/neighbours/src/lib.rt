@@ -1,9 +1,11 @@
 // What a visit of a cluster needs, by its own edges in a rung's lists: the parts that they lead to, and their width to each. The parts are
 // kept from one visit to the next, with a mark for each cluster: 0 where no candidate is open to it, 2 where an end of its edges has moved since.
 ghost use mathlib.Core.Path.{_≡_};
+ghost use mathlib.Core.Bool.{_&&_};
 ghost use Prim.Native.Nat.{_<_, _≤_, min, max};
 ghost use lib.ListN.{length, getD};
-ghost use Rattle.folds.specs.Fold.{when, turns, Read};
+ghost use lib.Dec.{leb};
+ghost use Rattle.folds.specs.Fold.{pick, when, turns, Read};
 ghost use Rattle.graph.specs.Links.{Linked, Ended};
 ghost use Rattle.neighbours.specs.Visit.{Placed, Listed, Indexed, lowerBy, raiseBy, SumsRoom, Added, Pulled};
 ghost use Rattle.neighbours.specs.Known.{openTo, Known, Swept, Opened, Fresh, Staled, Roused};
@@ -249,19 +251,35 @@ pub fn pulls(
     add_widths(to, from, widths, table, head_in, next_in, h, toward);
 }
 
-// Marks the clusters at the far ends of the edges whose near end is h.
+// The mark of a cluster after a neighbour has moved: 2 where its number is one from first to last.
+fn restaled(mark: u8, number: u16, first: u16, last: u16) -> u8
+    ensures { λ r. ⌜ r ≡ pick (leb first number && leb number last) 2 mark ⌝ }
+{
+    if number < first {
+        return mark;
+    }
+    if last < number {
+        return mark;
+    }
+    2
+}
+
+// Marks the clusters at the far ends of the edges whose near end is h, where their number is one from first to last.
 fn mark_far(
     near: &[u16],
     far: &[u16],
     head: &[u16; 513],
     next: &[u16; 1024],
     h: usize,
+    numbers: &[u16; 512],
+    first: u16,
+    last: u16,
     marks: &mut [u8; 512],
 )
     requires { ⌜ Ended (now near) (now far) ⌝ }
     requires { ⌜ Linked (λ i. getD (now near) i 0) (length (now near)) (now head) (now next) ⌝ }
-    requires { ⌜ (h < 512) × (length (now marks) ≡ 512) ⌝ }
-    ensures { λ _. ⌜ Staled (now (near .entry)) (now (far .entry)) h (length (now (near .entry))) (now (marks .entry)) (now (marks .exit)) ⌝ }
+    requires { ⌜ (h < 512) × (length (now numbers) ≡ 512) × (length (now marks) ≡ 512) ⌝ }
+    ensures { λ _. ⌜ Staled (now (near .entry)) (now (far .entry)) (now (numbers .entry)) first last h (length (now (near .entry))) (now (marks .entry)) (now (marks .exit)) ⌝ }
 {
     let m = near.len();
     let mut j = folds::wide(head[h]);
@@ -269,11 +287,12 @@ fn mark_far(
         let i = j;
         j = folds::wide(next[i]);
         let c = graph::end_at(far, i);
-        marks[c] = 2;
+        marks[c] = restaled(marks[c], numbers[c], first, last);
     }
 }
 
-// Marks the clusters whose numbers a move of h can change: those at the far ends of its edges.
+// Marks the clusters whose numbers a move of h from part own to part t can change: those at the far ends of its edges, but where the number is beyond
+// both parts, so that another neighbour gives it.
 pub fn rouse(
     from: &[u16],
     to: &[u16],
@@ -282,13 +301,20 @@ pub fn rouse(
     head_in: &[u16; 513],
     next_in: &[u16; 1024],
     h: usize,
+    own: u16,
+    t: u16,
+    low: &[u16; 512],
+    high: &[u16; 512],
     marks: &mut [u8; 512],
 )
     requires { ⌜ Ended (now from) (now to) ⌝ }
     requires { ⌜ Indexed (now from) (now to) (now head) (now next) (now «head_in») (now «next_in») ⌝ }
-    requires { ⌜ (h < 512) × (length (now marks) ≡ 512) ⌝ }
-    ensures { λ _. ⌜ Roused (now (from .entry)) (now (to .entry)) h (now (marks .entry)) (now (marks .exit)) ⌝ }
+    requires { ⌜ (h < 512) × (length (now low) ≡ 512) × (length (now high) ≡ 512) × (length (now marks) ≡ 512) ⌝ }
+    requires { ⌜ (own < 16) × (t < 16) ⌝ }
+    ensures { λ _. ⌜ Roused (now (from .entry)) (now (to .entry)) h own t (now (low .entry)) (now (high .entry)) (now (marks .entry)) (now (marks .exit)) ⌝ }
 {
-    mark_far(from, to, head, next, h, marks);
-    mark_far(to, from, head_in, next_in, h, marks);
+    let last = most(own + 1, t);
+    mark_far(from, to, head, next, h, high, 0, last, marks);
+    let first = least(own, t + 1);
+    mark_far(to, from, head_in, next_in, h, low, first, 16, marks);
 }

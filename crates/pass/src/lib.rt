@@ -367,7 +367,20 @@ fn refine_cluster(
         return before;
     }
     table[h] = t as u16;
-    neighbours::rouse(from, to, head, next, head_in, next_in, h, marks);
+    neighbours::rouse(
+        from,
+        to,
+        head,
+        next,
+        head_in,
+        next_in,
+        h,
+        own as u16,
+        t as u16,
+        low,
+        high,
+        marks,
+    );
     let after = sums.moved(own, t, costs[h]);
     let more = counted(aim.gain);
     Progress {

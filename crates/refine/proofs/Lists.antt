@@ -1,5 +1,5 @@
 -- What a rung's lists say of a cluster is what the graph's edges say of it.
-use Prim.Native.Nat.{ℕ, zero, suc, _+_, _≤_, _<_, min, max}
+use Prim.Native.Nat.{ℕ, _+_, _≤_, _<_, min, max}
 use mathlib.Core.Path.{_≡_, sym, ap, ap₂, _∙_}
 use mathlib.Core.Bool.{Bool, true, false, not, _&&_}
 use mathlib.Core.List.{List}
@@ -8,8 +8,8 @@ use lib.Dec.{eqb}
 use lib.ListN.{length, getD}
 use borrow.Author.Tests.{eqb-true, eqb-false, eq-eqb, ne-eqb}
 use Rattle.folds.specs.Fold.{when, sumTo, turns}
-use Rattle.folds.proofs.Cases.{by, either, eq-or-ne, both, not-yes}
-use Rattle.folds.proofs.Best.{choose, choose-of}
+use Rattle.folds.proofs.Cases.{either, eq-or-ne, both, not-yes}
+use Rattle.folds.proofs.Choose.{choose-same}
 use Rattle.folds.proofs.Sums.{sumTo-ext}
 use Rattle.graph.specs.Graph.{Graph, edges, via, through, Formed, RowOf}
 use Rattle.graph.specs.Coarse.{Coarse}
@@ -18,30 +18,6 @@ use Rattle.graph.proofs.Coarse.{coarse-sum, listed-edge, edge-listed}
 use Rattle.refinement.specs.Move.{leaves, share, pull}
 use Rattle.refinement.specs.Pass.{lowered, raised, lowestNext, aboveBefore}
 use Rattle.neighbours.specs.Visit.{lowerBy, raiseBy, widthTo, lowNext, highBefore, pullTo}
-
--- the best of many, by a `better` that is the nearest to both in an order R
-module _ (better : ℕ → ℕ → ℕ) (R : ℕ → ℕ → Type 0) (self : (a : ℕ) → R a a) (trans : (a b c : ℕ) → R a b → R b c → R a c)
-    (left : (a b : ℕ) → R (better a b) a) (right : (a b : ℕ) → R (better a b) b) (nearest : (x a b : ℕ) → R x a → R x b → R x (better a b))
-    (same : (a b : ℕ) → R a b → R b a → a ≡ b) where
-  module _ (p : ℕ → Bool) (f : ℕ → ℕ) (s : ℕ) where
-    best-start : (m : ℕ) → R (choose p f better s m) s
-    unfolding turns
-    best-start zero = self s
-    best-start (suc m) = by (p m) (λ q. rw q (trans _ _ _ (left _ (f m)) (best-start m))) (λ q. rw q (best-start m))
-
-    best-nearest : (x m : ℕ) → R x s → ((j : ℕ) → j < m → p j ≡ true → R x (f j)) → R x (choose p f better s m)
-    unfolding turns
-    best-nearest x zero l h = l
-    best-nearest x (suc m) l h =
-        let r = best-nearest x m l (λ j lj q. h j (omega arith) q) in by (p m) (λ q. rw q (nearest x _ _ r (h m (omega arith) q))) (λ q. rw q r)
-
-  -- where each value of one is a value of the other
-  best-same : (p q : ℕ → Bool) (f g : ℕ → ℕ) (s m n : ℕ) → ((j : ℕ) → j < m → p j ≡ true → (i : ℕ) × (i < n) × (q i ≡ true) × (g i ≡ f j))
-      → ((i : ℕ) → i < n → q i ≡ true → (j : ℕ) × (j < m) × (p j ≡ true) × (f j ≡ g i)) → choose p f better s m ≡ choose q g better s n
-  best-same p q f g s m n there back =
-      same _ _
-      (best-nearest q g s _ n (best-start p f s m) (λ i l t. let (j, lj, tj, e) = back i l t in rw (← e) (choose-of p f better s R trans left right m j lj tj)))
-      (best-nearest p f s _ m (best-start q g s n) (λ j l t. let (i, li, ti, e) = there j l t in rw (← e) (choose-of q g better s R trans left right n i li ti)))
 
 -- one way along the edges: near to far in the graph, from to onto in the lists
 module _ (row near far from onto table : List ℕ) (m n h : ℕ) (inside : (j : ℕ) → j < m → getD far j 0 < length row) (apart : (i : ℕ) → i < n → getD from i 0 ≡ getD onto i 0 → ⊥)
@@ -68,13 +44,13 @@ module _ (row near far from onto table : List ℕ) (m n h : ℕ) (inside : (j : 
   low-way : (k : ℕ) → turns n (lowerBy from onto table h) k ≡ turns m (lowered row near far (through row table) h) k
   unfolding lowerBy lowered
   low-way k =
-      best-same min (λ a b. a ≤ b) (λ a. omega arith) (λ a b c x y. omega arith) (λ a b. omega arith) (λ a b. omega arith) (λ x a b p q. omega arith) (λ a b p q. omega arith)
+      choose-same min (λ a b. a ≤ b) (λ a. omega arith) (λ a b c x y. omega arith) (λ a b. omega arith) (λ a b. omega arith) (λ x a b p q. omega arith) (λ a b p q. omega arith)
       (λ i. eqb (getD from i 0) h) (leaves row near far h) (via table onto) (via (through row table) far) k n m there back
 
   high-way : turns n (raiseBy from onto table h) 0 ≡ turns m (raised row near far (through row table) h) 0
   unfolding raiseBy raised
   high-way =
-      best-same max (λ a b. b ≤ a) (λ a. omega arith) (λ a b c x y. omega arith) (λ a b. omega arith) (λ a b. omega arith) (λ x a b p q. omega arith) (λ a b p q. omega arith)
+      choose-same max (λ a b. b ≤ a) (λ a. omega arith) (λ a b c x y. omega arith) (λ a b. omega arith) (λ a b. omega arith) (λ x a b p q. omega arith) (λ a b p q. omega arith)
       (λ i. eqb (getD from i 0) h) (leaves row near far h) (λ i. via table onto i + 1) (λ j. via (through row table) far j + 1) 0 n m
       (λ i l t. let (j, lj, tj, e) = there i l t in (j, lj, tj, ap (λ (x : ℕ). x + 1) e)) (λ j l t. let (i, li, ti, e) = back j l t in (i, li, ti, ap (λ (x : ℕ). x + 1) e))
 

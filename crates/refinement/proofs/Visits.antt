@@ -11,7 +11,8 @@ use lib.Signed.{ltZ}
 use lib.ListN.{getD}
 use borrow.Author.Tests.{eqb-true, eqb-false, eq-eqb, ne-eqb, ltb-true, ltb-false, leb-true, lt-ltb, le-ltb, le-leb}
 use Rattle.folds.proofs.Cases.{no-bool, by, either, both, both-i, one-of, or-l, or-r, not-yes}
-use Rattle.folds.proofs.Best.{Best, best-to, choose-is, choose-of, min-one, max-one}
+use Rattle.folds.proofs.Best.{Best, best-to}
+use Rattle.folds.proofs.Choose.{choose-is, choose-of, min-one, max-one}
 use Rattle.folds.proofs.Searches.{any-i, any-e}
 use Rattle.graph.specs.Graph.{Graph, vertices, edges, via}
 use Rattle.graph.specs.Rows.{clusters}

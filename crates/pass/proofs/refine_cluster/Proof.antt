@@ -23,23 +23,27 @@ refine-cluster-spec =
     (λ c. omega (arith, c .before .goal .ensures .within))
     (λ c. omega (arith, c .before .before .before .before .before .before .before .before .before .before .before .before .before .before .pre .1 .1 .1 .1 .0 .0))
     (λ c. let p = c .before .before .before .before .before .before .before .before .before .before .before .before .before .before .pre in omega (arith, p .1 .1 .1 .1 .0 .0, p .1 .1 .0 .long))
-    (λ c κs. let p = c .before .before .before .before .before .before .before .before .before .before .before .before .before .before .before .pre in (p .0 .ends, (p .1 .0, (p .1 .1 .1 .1 .0 .0, c .before .before .goal .ensures .known .marks-long))))
-    (λ c. omega (arith, c .before .before .before .before .before .before .before .before .before .before .before .before .before .before .before .before .pre .1 .1 .1 .1 .0 .0))
-    (λ c. let p = c .before .before .before .before .before .before .before .before .before .before .before .before .before .before .before .before .pre .1 .1 .1 .1 .0 in omega (arith, p .0, p .1))
-    (λ c κs. let o = c .before .before .before .before .before .before .before .before .before .part-at .ensures in
-    rw (o .is) (goal-allowed _ _ _ _ _ _ (c .before .before .before .before .goal .ensures) (rw (o .is) at (c .before .before .before .if2 .left)) (rw (o .is) at (o .low)) (omega (arith, c .before .before .before .before .before .before .before .before .before .before .before .before .before .before .before .before .before .fits .bound))))
+    (λ c. omega (arith, c .before .before .before .before .before .before .part-at .ensures .low))
+    (λ c. omega (arith, c .before .goal .ensures .within))
+    (λ c κs. let p = c .before .before .before .before .before .before .before .before .before .before .before .before .before .before .before .before .before .pre in
+    let K = c .before .before .before .before .goal .ensures .known in
+    (p .0 .ends, (p .1 .0, ((p .1 .1 .1 .1 .0 .0, K .low-long, K .high-long, K .marks-long), (c .before .before .before .before .before .before .before .before .before .part-at .ensures .low, c .before .before .before .before .goal .ensures .within)))))
+    (λ c. omega (arith, c .before .before .before .before .before .before .before .before .before .before .before .before .before .before .before .before .before .before .pre .1 .1 .1 .1 .0 .0))
+    (λ c. let p = c .before .before .before .before .before .before .before .before .before .before .before .before .before .before .before .before .before .before .pre .1 .1 .1 .1 .0 in omega (arith, p .0, p .1))
+    (λ c κs. let o = c .before .before .before .before .before .before .before .before .before .before .before .part-at .ensures in
+    rw (o .is) (goal-allowed _ _ _ _ _ _ (c .before .before .before .before .before .before .goal .ensures) (rw (o .is) at (c .before .before .before .before .before .if2 .left)) (rw (o .is) at (o .low)) (omega (arith, c .before .before .before .before .before .before .before .before .before .before .before .before .before .before .before .before .before .before .before .fits .bound))))
     (λ c κs. search needs)
-    (λ c. goal-paid _ _ _ _ _ _ _ (c .before .before .before .before .before .before .before .before .goal .ensures) (c .before .before .before .before .before .before .before .before .before .before .before .before .before .before .before .before .before .before .before .before .before .pre .1 .1 .1 .1 .1))
-    (λ c. omega (arith, c .before .before .before .before .before .before .before .before .before .before .before .before .before .before .before .before .before .before .before .before .before .before .pre .1 .1 .1 .1 .0 .3))
-    (λ c. let p = c .before .before .before .before .before .before .before .before .before .before .before .before .before .before .before .before .before .before .before .before .before .before .pre in
-    let o = c .before .before .before .before .before .before .before .before .before .before .before .before .before .before .part-at .ensures in
-    let G = c .before .before .before .before .before .before .before .before .before .goal .ensures in
-    let n = c .before .before .before .before .before .before .before .before .if2 .left in (
+    (λ c. goal-paid _ _ _ _ _ _ _ (c .before .before .before .before .before .before .before .before .before .before .goal .ensures) (c .before .before .before .before .before .before .before .before .before .before .before .before .before .before .before .before .before .before .before .before .before .before .before .pre .1 .1 .1 .1 .1))
+    (λ c. omega (arith, c .before .before .before .before .before .before .before .before .before .before .before .before .before .before .before .before .before .before .before .before .before .before .before .before .pre .1 .1 .1 .1 .0 .3))
+    (λ c. let p = c .before .before .before .before .before .before .before .before .before .before .before .before .before .before .before .before .before .before .before .before .before .before .before .before .pre in
+    let o = c .before .before .before .before .before .before .before .before .before .before .before .before .before .before .before .before .part-at .ensures in
+    let G = c .before .before .before .before .before .before .before .before .before .before .before .goal .ensures in
+    let n = c .before .before .before .before .before .before .before .before .before .before .if2 .left in (
       record {
         is-so = worked-move _ _ _ _ _ _ _ _ _ _ _ _ _ (o .is) refl (G .is) n (c .before .before .before .before .moved .ensures .is) (G .gain-is) (c .before .before .before .counted .ensures .0);
         placed = placed-set _ _ (p .1 .1 .0) (G .within);
         counts = c .before .before .before .before .moved .ensures .counts;
         few = omega arith;
       },
-      known-moved _ (G .known) (goal-marked _ _ _ _ _ _ G (rw (o .is) at n) (p .1 .1 .1 .1 .0 .0)) (c .before .before .before .before .before .before .rouse .ensures),
+      known-moved (p .1 .1 .1 .1 .0 .2) (omega (arith, p .1 .1 .1 .1 .0 .0, p .1 .1 .0 .long)) (o .is) (G .known) (goal-marked _ _ _ _ _ _ G (rw (o .is) at n) (p .1 .1 .1 .1 .0 .0)) (c .before .before .before .before .before .before .rouse .ensures),
     )))
