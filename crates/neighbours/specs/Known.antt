@@ -1,5 +1,5 @@
 -- What is known of the clusters from one visit to the next: for each the lowest part of a successor, one more than the highest of a
--- predecessor, and a mark. 0: no candidate is open to it. 1: the two numbers are right. 2: an end of its edges has moved since.
+-- predecessor, and a mark. 0: no candidate is open to it. 1: the two numbers are right. 2: a neighbour's move may have changed them.
 use Prim.Native.Nat.{ℕ, _+_, _≤_, _<_, min, max}
 use mathlib.Core.Path.{_≡_}
 use mathlib.Core.Bool.{Bool, false, _&&_, _||_}

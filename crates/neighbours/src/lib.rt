@@ -1,5 +1,6 @@
 // What a visit of a cluster needs, by its own edges in a rung's lists: the parts that they lead to, and their width to each. The parts are
-// kept from one visit to the next, with a mark for each cluster: 0 where no candidate is open to it, 2 where an end of its edges has moved since.
+// kept from one visit to the next, with a mark for each cluster: 0 where no candidate is open to it, 2 where a neighbour's move may have changed what is
+// known of it.
 ghost use mathlib.Core.Path.{_≡_};
 ghost use mathlib.Core.Bool.{_&&_};
 ghost use Prim.Native.Nat.{_<_, _≤_, min, max};
@@ -167,7 +168,7 @@ fn highest(
     high
 }
 
-// Makes the two numbers of h right again, where an end of its edges has moved. The first pair of links is by the edges' starts, the second
+// Makes the two numbers of h right again, where a neighbour's move may have changed them. The first pair of links is by the edges' starts, the second
 // by their ends; here and below.
 pub fn refresh(
     from: &[u16],

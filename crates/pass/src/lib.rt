@@ -10,7 +10,7 @@ ghost use Rattle.neighbours.specs.Known.{Known};
 ghost use Rattle.pass.specs.Work.{gainsBy, beatsOf, betterOf, Around, backAllowed, aheadAllowed, backOf, endsOf, EvenPart, Aims, workOf, begun, worked, Visitable, Goal, WorkDone};
 use part_sums::PartSums;
 
-// The sums, the cut, the moves counted so far, and whether the pass at hand has moved something.
+// The sums, the cut, the moves of gain above 0 so far, and whether the pass at hand has moved something.
 pub struct Progress {
     pub sums: PartSums,
     pub cut: u32,
@@ -241,7 +241,7 @@ fn decide(
     }
 }
 
-// Where the visit of cluster h takes it, by the parts around it, which are found again where an end of its edges has moved.
+// Where the visit of cluster h takes it, by the parts around it, which are found again where a neighbour's move may have changed them.
 fn goal(
     from: &[u16],
     to: &[u16],
