@@ -2,18 +2,21 @@
 ghost use mathlib.Core.Path.{_≡_};
 ghost use Rattle.graph.specs.Graph.{graphOf};
 ghost use Rattle.validity.specs.Check.{mostVertices};
+ghost use Rattle.validity.specs.Drawn as drawn;
 ghost use Rattle.partition.specs.Split as split;
 ghost use Rattle.inspection.specs.Inspect as inspect;
 ghost use Rattle.kit_text.specs.Reading.{lists, readingOf, written, figures, outcome};
-ghost use Rattle.hatchraisin.specs.Told.{fourCells, oneCell};
+ghost use Rattle.hatchraisin.specs.Told.{cells};
 use inspection::Inspected;
 use kit_text::Reading;
 use partition::Partitioned;
+use validity::Checked;
+use validity::Verdict;
 
 // The split's values into the cells; its number.
 fn tell_split(told: Partitioned, answer: &mut [usize; 4]) -> u32
     ensures { λ r. ⌜ r ≡ split.answerOf told .number ⌝ }
-    ensures { λ _. ⌜ now (answer .exit) ≡ fourCells (split.answerOf told) ⌝ }
+    ensures { λ _. ⌜ now (answer .exit) ≡ cells 4 (split.answerOf told) ⌝ }
 {
     match told {
         Partitioned::Failed(cause, place) => {
@@ -30,7 +33,7 @@ fn tell_split(told: Partitioned, answer: &mut [usize; 4]) -> u32
 // Inspection's value into the cell; its number.
 fn tell_inspect(told: Inspected, answer: &mut [usize; 1]) -> u32
     ensures { λ r. ⌜ r ≡ inspect.answerOf told .number ⌝ }
-    ensures { λ _. ⌜ now (answer .exit) ≡ oneCell (inspect.answerOf told) ⌝ }
+    ensures { λ _. ⌜ now (answer .exit) ≡ cells 1 (inspect.answerOf told) ⌝ }
 {
     match told {
         Inspected::Failed(cause, place) => {
@@ -44,10 +47,29 @@ fn tell_inspect(told: Inspected, answer: &mut [usize; 1]) -> u32
     }
 }
 
+// The place and the count of a check into the cells; its number.
+fn tell_check(told: Checked, answer: &mut [usize; 2]) -> u32
+    ensures { λ r. ⌜ r ≡ drawn.answerOf told .number ⌝ }
+    ensures { λ _. ⌜ now (answer .exit) ≡ cells 2 (drawn.answerOf told) ⌝ }
+{
+    let tried = told.tried;
+    let verdict = told.verdict;
+    match verdict {
+        Verdict::Refused(cause, place) => {
+            *answer = [place, tried];
+            validity::number(cause)
+        }
+        Verdict::Passed => {
+            *answer = [0, tried];
+            0
+        }
+    }
+}
+
 // The reading's values into the cells; its number.
 fn tell_read(told: Reading, answer: &mut [usize; 4]) -> u32
     ensures { λ r. ⌜ r ≡ outcome told .number ⌝ }
-    ensures { λ _. ⌜ now (answer .exit) ≡ fourCells (outcome told) ⌝ }
+    ensures { λ _. ⌜ now (answer .exit) ≡ cells 4 (outcome told) ⌝ }
 {
     match told {
         Reading::Refused(fault, place) => {
@@ -75,7 +97,7 @@ pub extern "C" fn hatch_split(
     answer: &mut [usize; 4],
 ) -> u32
     ensures { λ r. ⌜ r ≡ split.splitOf mostVertices (graphOf (now (costs .entry)) (now (starts .entry)) (now (ends .entry)) (now (widths .entry))) k bound (now (table .entry)) (now (ladder .entry)) .number ⌝ }
-    ensures { λ _. ⌜ now (answer .exit) ≡ fourCells (split.splitOf mostVertices (graphOf (now (costs .entry)) (now (starts .entry)) (now (ends .entry)) (now (widths .entry))) k bound (now (table .entry)) (now (ladder .entry))) ⌝ }
+    ensures { λ _. ⌜ now (answer .exit) ≡ cells 4 (split.splitOf mostVertices (graphOf (now (costs .entry)) (now (starts .entry)) (now (ends .entry)) (now (widths .entry))) k bound (now (table .entry)) (now (ladder .entry))) ⌝ }
     ensures { λ _. ⌜ now (table .exit) ≡ split.tableAfter mostVertices (graphOf (now (costs .entry)) (now (starts .entry)) (now (ends .entry)) (now (widths .entry))) k bound (now (table .entry)) (now (ladder .entry)) ⌝ }
     ensures { λ _. ⌜ now (ladder .exit) ≡ split.rowsLeft mostVertices (graphOf (now (costs .entry)) (now (starts .entry)) (now (ends .entry)) (now (widths .entry))) k bound (now (table .entry)) (now (ladder .entry)) ⌝ }
 {
@@ -99,11 +121,31 @@ pub extern "C" fn hatch_inspect(
     answer: &mut [usize; 1],
 ) -> u32
     ensures { λ r. ⌜ r ≡ inspect.inspectOf (graphOf (now (costs .entry)) (now (starts .entry)) (now (ends .entry)) (now (widths .entry))) k bound (now (table .entry)) (now (order .entry)) .number ⌝ }
-    ensures { λ _. ⌜ now (answer .exit) ≡ oneCell (inspect.inspectOf (graphOf (now (costs .entry)) (now (starts .entry)) (now (ends .entry)) (now (widths .entry))) k bound (now (table .entry)) (now (order .entry))) ⌝ }
+    ensures { λ _. ⌜ now (answer .exit) ≡ cells 1 (inspect.inspectOf (graphOf (now (costs .entry)) (now (starts .entry)) (now (ends .entry)) (now (widths .entry))) k bound (now (table .entry)) (now (order .entry))) ⌝ }
     ensures { λ _. ⌜ now (order .exit) ≡ inspect.orderAfter (graphOf (now (costs .entry)) (now (starts .entry)) (now (ends .entry)) (now (widths .entry))) k bound (now (table .entry)) (now (order .entry)) ⌝ }
 {
     tell_inspect(
         inspection::inspect(costs, starts, ends, widths, k, bound, table, order),
+        answer,
+    )
+}
+
+// Document 02, b: the check of a kit that is being drawn. Answers the place, 0 where there is none, and how many wires the search for a repeated one tried.
+#[no_mangle]
+pub extern "C" fn hatch_check(
+    costs: &[u16],
+    starts: &[u16],
+    ends: &[u16],
+    widths: &[u16],
+    k: usize,
+    bound: u32,
+    answer: &mut [usize; 2],
+) -> u32
+    ensures { λ r. ⌜ r ≡ drawn.answerOf (drawn.checkOf (graphOf (now (costs .entry)) (now (starts .entry)) (now (ends .entry)) (now (widths .entry))) k bound) .number ⌝ }
+    ensures { λ _. ⌜ now (answer .exit) ≡ cells 2 (drawn.answerOf (drawn.checkOf (graphOf (now (costs .entry)) (now (starts .entry)) (now (ends .entry)) (now (widths .entry))) k bound)) ⌝ }
+{
+    tell_check(
+        validity::check_kit(costs, starts, ends, widths, k, bound),
         answer,
     )
 }
@@ -119,7 +161,7 @@ pub extern "C" fn hatch_read(
     answer: &mut [usize; 4],
 ) -> u32
     ensures { λ r. ⌜ r ≡ figures (readingOf (now (text .entry)) (lists (now (costs .entry)) (now (starts .entry)) (now (ends .entry)) (now (widths .entry)))) .number ⌝ }
-    ensures { λ _. ⌜ now (answer .exit) ≡ fourCells (figures (readingOf (now (text .entry)) (lists (now (costs .entry)) (now (starts .entry)) (now (ends .entry)) (now (widths .entry))))) ⌝ }
+    ensures { λ _. ⌜ now (answer .exit) ≡ cells 4 (figures (readingOf (now (text .entry)) (lists (now (costs .entry)) (now (starts .entry)) (now (ends .entry)) (now (widths .entry))))) ⌝ }
     ensures { λ _. ⌜ lists (now (costs .exit)) (now (starts .exit)) (now (ends .exit)) (now (widths .exit)) ≡ written (readingOf (now (text .entry)) (lists (now (costs .entry)) (now (starts .entry)) (now (ends .entry)) (now (widths .entry)))) (lists (now (costs .entry)) (now (starts .entry)) (now (ends .entry)) (now (widths .entry))) ⌝ }
 {
     tell_read(

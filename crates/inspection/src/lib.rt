@@ -199,7 +199,8 @@ pub fn inspect(
         &mut head,
         &mut next,
     );
-    if let Verdict::Refused(cause, place) = checked {
+    let verdict = checked.verdict;
+    if let Verdict::Refused(cause, place) = verdict {
         return Inspected::Failed(cause, place);
     }
     check_table(costs, starts, ends, widths, k, bound, &table[..n], order)

@@ -22,8 +22,9 @@ use Rattle.graph.proofs.Rows.{few-clusters}
 use Rattle.topology.specs.Order.{orderOf}
 use Rattle.topology.proofs.Orders.{order-all, place-at, order-rises}
 use Rattle.topology.proofs.Sorted.{order-sorted}
-use Rattle.validity.specs.Cause.{Answer, refusal, answered}
+use Rattle.validity.specs.Cause.{Answer, refusal, answered, ifPassed}
 use Rattle.validity.specs.Check.{mostVertices, Valid}
+use Rattle.validity.specs.Drawn.{drawnOf}
 use Rattle.validity.specs.Sound.{Sound}
 use Rattle.validity.specs.declared.Cause.the-variants.{Uncut}
 use Rattle.validity.specs.declared.Verdict.the-variants.{Passed}
@@ -45,7 +46,7 @@ use Rattle.refinement.specs.Pass.{Tally, refined}
 use Rattle.refinement.specs.Own.{ownMoves, Took}
 use Rattle.refinement.proofs.Claims.{moves-law, own-moves, few-moves, refined-good}
 use Rattle.partition.specs.Phases.{Result, nothing, parted, firstOf, refinedFrom, resultOf}
-use Rattle.partition.specs.Split.{roomFor, verdictOf, splitOf, tableAfter, rowsLeft}
+use Rattle.partition.specs.Split.{roomFor, verdictOf, valuesOf, splitOf, tableAfter, rowsLeft}
 use Rattle.partition.specs.Claim.{Answers, Uncuttable, Ordered}
 use Rattle.partition.proofs.Rows.{good-start}
 
@@ -200,6 +201,12 @@ module _ (G : Graph) (k bound : ℕ) (valid : Valid G k bound) where
 
         sorted : orderOf (seen G (tally .parts)) k ≡ identity k
         sorted = order-sorted (seen G (tally .parts)) k (λ j l. I .forward j l)
+
+-- with room for its tables, the split refuses by 1 to 8 just what the check of the drawn kit refuses (document 02, b)
+pub split-drawn : (G : Graph) (k bound : ℕ) (table rows : List ℕ) → vertices G ≤ length table → 9 * vertices G ≤ length rows
+    → splitOf mostVertices G k bound table rows ≡ ifPassed (drawnOf G k bound) (valuesOf G (keptOf G k bound) (resultOf G k bound)) refusal
+unfolding splitOf verdictOf roomFor
+split-drawn G k bound table rows lt ll = rw (le-leb _ _ lt, le-leb _ _ ll) refl
 
 -- WHAT A CALLER HAS: an answer of number 0 says that the graph was valid and there was room, and so all of the above
 pub split-answered : (most : ℕ) → most ≤ mostVertices → (G : Graph) (k bound : ℕ) (table rows : List ℕ) → splitOf most G k bound table rows .number ≡ 0

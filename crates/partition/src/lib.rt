@@ -245,7 +245,8 @@ fn split_within(
         &mut head,
         &mut next,
     );
-    if let Verdict::Refused(cause, place) = checked {
+    let verdict = checked.verdict;
+    if let Verdict::Refused(cause, place) = verdict {
         return Partitioned::Failed(cause, place);
     }
     let inner = partition(

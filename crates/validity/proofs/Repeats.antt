@@ -7,30 +7,58 @@ use native.Mathlib.Nat.{div-add-mod', div-lt-iff-lt-mul, mod-lt, suc-mul, mul-le
 use native.Mathlib.Omega.{arith}
 use lib.Arith.{digits-div, digits-mod}
 use lib.Bits.{bitOr}
-use lib.Dec.{eqb}
+use lib.Dec.{eqb, ltb}
 use lib.ListN.{length, getD, set}
 use lib.Seq.{getD-set-same, getD-set-other}
-use borrow.Author.Tests.{eqb-true, eq-eqb, ne-eqb}
-use Rattle.folds.specs.Fold.{anyTo, Read}
-use Rattle.folds.proofs.Cases.{by, either, eq-or-ne, both, both-i, and-false, same-test}
-use Rattle.folds.proofs.Searches.{any-i, any-ext, any-step, any-zero}
+use borrow.Author.Tests.{eqb-true, eq-eqb, ne-eqb, ltb-true, ltb-false}
+use Rattle.folds.specs.Fold.{firstTo, anyTo, Read}
+use Rattle.folds.proofs.Cases.{by, no-bool, either, eq-or-ne, both, both-i, and-false, same-test}
+use Rattle.folds.proofs.Searches.{firstTo-none, firstTo-hit, any-i, any-ext, any-step, any-zero}
+use Rattle.graph.specs.Graph.{identity, arcs}
+use Rattle.topology.specs.Reach.{lowestOnCycle}
 use Rattle.pool.specs.Pool.{word}
 use Rattle.pool.proofs.Words.{word-ext, word-none, word-bit, word-or}
-use Rattle.validity.specs.Check.{repeats}
+use Rattle.validity.specs.Check.{refuseAt, repeats, cyclesFrom, repeatsFrom}
 use Rattle.validity.specs.Contracts.{Fits}
-use Rattle.validity.specs.Repeat.{WordsRoom}
+use Rattle.validity.specs.Repeat.{firstRepeat, tried, triedOf, Found}
+use Rattle.validity.specs.Drawn.{triedBy}
+use Rattle.validity.specs.declared.Checked.{Checked}
+use Rattle.validity.specs.declared.Verdict.{Verdict}
+use Rattle.validity.specs.Words.{WordsRoom, wordOf, isBit, BitsSet, Next, Tried}
 
--- the word of edge j
-unfoldable pub wordOf : List ℕ → List ℕ → ℕ → ℕ → ℕ
-wordOf starts ends stride j = getD starts j 0 * stride + getD ends j 0 / 64
+-- a search that found none so far goes on to an edge that it tries
+pub tries-next : (m j : ℕ) (p : ℕ → Bool) → firstTo j p ≡ j → j < m → j < tried (firstTo m p) m
+unfolding tried
+tries-next m j p e l =
+    by (ltb (firstTo m p) m)
+    (λ t.
+    let h = ltb-true (firstTo m p) m t in
+    rw t (by (ltb (firstTo m p) j) (λ u. absurd (no-bool (sym (firstTo-none j p e (firstTo m p) (ltb-true _ _ u)) ∙ firstTo-hit m p h))) (λ u. omega (arith, ltb-false (firstTo m p) j u)))) (λ f. rw f (omega arith))
 
--- edge j is bit i of word w
-unfoldable pub isBit : List ℕ → List ℕ → ℕ → ℕ → ℕ → ℕ → Bool
-isBit starts ends stride w i j = eqb (wordOf starts ends stride j) w && eqb (getD ends j 0 % 64) i
+tried-le : (place m : ℕ) → tried place m ≤ m
+unfolding tried
+tried-le place m = by (ltb place m) (λ t. rw t (omega (arith, ltb-true place m t))) (λ f. rw f (omega arith))
 
--- the bits of the first j edges are set, and no others
-pub record BitsSet (starts ends : List ℕ) (stride j : ℕ) (words : List ℕ) : Type 0 where
-  pub is : (w : ℕ) → getD words w 0 ≡ word 64 (λ i. anyTo j (isBit starts ends stride w i))
+-- only edges that are there are tried
+tried-there : (starts ends : List ℕ) {j : ℕ} → j < triedOf starts ends → j < length starts
+tried-there starts ends h = omega (arith, tried-le (firstRepeat starts ends) (length starts))
+
+pub next-there : {starts ends words : List ℕ} {stride j : ℕ} → Next starts ends stride j words → j < length starts
+next-there {starts = starts} {ends = ends} N = tried-there starts ends (N .next)
+
+-- what a verdict of checks 7 and 8 tells is what the search tried
+pub tried-found : (n : ℕ) (starts ends : List ℕ) → triedBy (repeatsFrom n starts ends) (length starts) ≡ triedOf starts ends
+unfolding triedBy tried repeatsFrom cyclesFrom refuseAt
+tried-found n starts ends =
+    by (ltb (firstRepeat starts ends) (length starts)) (λ t. rw t refl)
+    (λ f. rw f (by (ltb (lowestOnCycle (arcs (identity n) starts ends) n) n) (λ t. rw t refl) (λ g. rw g refl)))
+
+pub tried-told : {n : ℕ} {starts ends : List ℕ} {v : Verdict} {place count : ℕ} → Fits n starts ends → Found starts ends place count → v ≡ repeatsFrom n starts ends → count ≡ triedBy v (length starts)
+tried-told {n} {starts} {ends} _ f e = f .count-is ∙ sym (tried-found n starts ends) ∙ ap (λ (v : Verdict). triedBy v (length starts)) (sym e)
+
+-- a verdict with its count, whole
+pub checked-whole : {r : Checked} {v : Verdict} (m : ℕ) → r .verdict ≡ v → r .tried ≡ triedBy (r .verdict) m → r ≡ record { verdict = v; tried = triedBy v m }
+checked-whole {r} m e t = rw (← e) (ap (λ (x : ℕ). record { verdict = r .verdict; tried = x }) t)
 
 high-bits : {s x : ℕ} → x < s * 64 → x / 64 < s
 high-bits l = div-lt-iff-lt-mul {k = 64} (omega arith) .1 l
@@ -87,19 +115,17 @@ module _ (starts ends : List ℕ) (stride : ℕ) where
               (λ n. getD-set-other words w v _ 0 n ∙ S .is v ∙ word-ext 64 _ _ (λ i _. sym (any-more j v i (other-word j v i (λ e. n (e ∙ sym at))))));
         }
 
-    module _ {rooms : ℕ} (R : WordsRoom starts ends stride rooms) (l : j < length starts) where
+    module _ {rooms : ℕ} (R : WordsRoom starts ends stride rooms) (l : j < triedOf starts ends) where
       was-set : anyTo j (isBit starts ends stride w (getD ends j 0 % 64)) ≡ repeats starts ends j
       unfolding repeats isBit wordOf
       was-set = any-ext j _ _ (λ i h. rw at (same-tests stride _ _ _ _ (R .end-in i (omega arith)) (R .end-in j l)))
 
-      pub is-repeat : getD words w 0 ≡ bitOr (getD words w 0) x → repeats starts ends j ≡ true
-      is-repeat e = sym was-set ∙ word-bit 64 _ _ (sym (S .is w) ∙ e ∙ set-bit) (getD ends j 0 % 64) low ∙ own
-
-      pub no-repeat : (getD words w 0 ≡ bitOr (getD words w 0) x → ⊥) → repeats starts ends j ≡ false
-      no-repeat n =
-          by (repeats starts ends j)
-          (λ t. absurd (n (S .is w ∙ sym (word-or 64 (getD ends j 0 % 64) _ _ low (was-set ∙ t) (λ _ _ _. refl)) ∙ rw (bit, S .is w))))
-          (λ f. f)
+      -- its bit is set already exactly if it repeats an earlier one
+      pub bit-repeats : eqb (getD words w 0) (bitOr (getD words w 0) x) ≡ repeats starts ends j
+      bit-repeats =
+          same-test _ _
+          (λ t. sym was-set ∙ word-bit 64 _ _ (sym (S .is w) ∙ eqb-true _ _ t ∙ set-bit) (getD ends j 0 % 64) low ∙ own)
+          (λ t. eq-eqb _ _ (S .is w ∙ sym (word-or 64 (getD ends j 0 % 64) _ _ low (was-set ∙ t) (λ _ _ _. refl)) ∙ rw (bit, S .is w)))
 
 -- what was read of edge j, and its word and bit
 module _ {starts ends : List ℕ} {j a b : ℕ} (stride : ℕ) (from : Read starts j 65536 a) (to : Read ends j 65536 b) where
@@ -107,7 +133,7 @@ module _ {starts ends : List ℕ} {j a b : ℕ} (stride : ℕ) (from : Read star
   unfolding wordOf
   word-is = rw (from .is, to .is)
 
-  pub word-in : {words : ℕ} → WordsRoom starts ends stride words → j < length starts → a * stride + b / 64 < words
+  pub word-in : {words : ℕ} → WordsRoom starts ends stride words → j < triedOf starts ends → a * stride + b / 64 < words
   word-in R l = rw (from .is, to .is) (omega (arith, R .start-in j l, high-bits (R .end-in j l)))
 
 pub bit-is : {ends : List ℕ} {j b x : ℕ} → Read ends j 65536 b → x ≡ 2 ^ (b % 64) → x ≡ 2 ^ (getD ends j 0 % 64)
@@ -115,9 +141,9 @@ bit-is to e = rw (to .is) at e
 
 -- as many words for each vertex as have a bit for each
 pub fits-roomy : {n : ℕ} {starts ends : List ℕ} (stride : ℕ) → Fits n starts ends → n ≤ stride * 64 → WordsRoom starts ends stride (stride * 64 * stride)
-fits-roomy {starts = starts} stride F l =
+fits-roomy {starts = starts} {ends = ends} stride F l =
     record {
-      same = F .same;
-      start-in = λ j h. rw (← suc-mul (getD starts j 0) stride) (mul-le-mul-right stride (omega (arith, F .start-in j h)));
-      end-in = λ j h. omega (arith, F .end-in j h);
+      ended = omega (arith, F .same, tried-le (firstRepeat starts ends) (length starts));
+      start-in = λ j h. rw (← suc-mul (getD starts j 0) stride) (mul-le-mul-right stride (omega (arith, F .start-in j (tried-there starts ends h))));
+      end-in = λ j h. omega (arith, F .end-in j (tried-there starts ends h));
     }

@@ -1,17 +1,24 @@
--- The search for a repeated edge: its answer, and the words that it is lent.
-use Prim.Native.Nat.{ℕ, _+_, _*_, _<_, _≤_}
+-- Document 02, b: the search for a repeated wire tries them from the lowest up as repeats of earlier ones and ends at the first find.
+use Prim.Native.Nat.{ℕ, _+_}
 use mathlib.Core.Path.{_≡_}
 use mathlib.Core.List.{List}
 use lib.Dec.{ltb}
-use lib.ListN.{length, getD}
-use Rattle.folds.specs.Fold.{pick}
+use lib.ListN.{length}
+use Rattle.folds.specs.Fold.{pick, firstTo}
+use Rattle.validity.specs.Check.{repeats}
 
--- how many edges the search tried: one more than the place at a find, else all m
+-- its place: the lowest repeating wire, or m
+abbrev pub firstRepeat : List ℕ → List ℕ → ℕ
+firstRepeat starts ends = firstTo (length starts) (repeats starts ends)
+
+-- how many wires it tried: the place and one more at a find, m otherwise
 unfoldable pub tried : ℕ → ℕ → ℕ
 tried place m = pick (ltb place m) (place + 1) m
 
--- each start has `stride` of the words, and these have a bit for each end
-pub record WordsRoom (starts ends : List ℕ) (stride words : ℕ) : Type 0 where
-  pub same : length ends ≡ length starts
-  pub start-in : (j : ℕ) → j < length starts → getD starts j 0 * stride + stride ≤ words
-  pub end-in : (j : ℕ) → j < length starts → getD ends j 0 < stride * 64
+abbrev pub triedOf : List ℕ → List ℕ → ℕ
+triedOf starts ends = tried (firstRepeat starts ends) (length starts)
+
+-- what it answers
+pub record Found (starts ends : List ℕ) (place count : ℕ) : Type 0 where
+  pub place-is : place ≡ firstRepeat starts ends
+  pub count-is : count ≡ triedOf starts ends

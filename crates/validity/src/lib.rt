@@ -7,7 +7,9 @@ ghost use lib.Dec.{eqb, leb};
 ghost use Rattle.folds.specs.Fold.{when, countTo, firstTo};
 ghost use Rattle.graph.specs.Graph.{graphOf};
 ghost use Rattle.validity.specs.Cause.{numberOf};
-ghost use Rattle.validity.specs.Repeat.{WordsRoom, tried};
+ghost use Rattle.validity.specs.Repeat.{Found};
+ghost use Rattle.validity.specs.Words.{WordsRoom, Next, Tried};
+ghost use Rattle.validity.specs.Drawn.{triedBy, checkOf};
 ghost use Rattle.validity.specs.Contracts.{Fits, OrderLeft};
 ghost use Rattle.validity.specs.Check.{badVertices, badParts, badEdges, badCost, badEnds, repeats, repeatsFrom, costsFrom, checked};
 
@@ -34,6 +36,12 @@ pub enum Cause {
 pub enum Verdict {
     Passed,
     Refused(Cause, usize),
+}
+
+// A verdict, and how many edges the search for a repeated one tried.
+pub struct Checked {
+    pub verdict: Verdict,
+    pub tried: usize,
 }
 
 // Document 01's number of a cause.
@@ -202,35 +210,47 @@ fn bad_end(n: usize, starts: &[u16], ends: &[u16], widths: &[u16]) -> usize
     first_fault(n, starts, ends, widths)
 }
 
-// Tries the edges from the lowest up, to the first whose bit is set already: edge j has bit ends[j] % 64 of word
-// starts[j] * stride + ends[j] / 64.
+// Tries edge j as a repeat of an earlier one: whether its bit is set already, bit ends[j] % 64 of word starts[j] * stride + ends[j] / 64.
+fn try_edge(starts: &[u16], ends: &[u16], j: usize, stride: usize, seen: &mut [u64]) -> bool
+    requires { ⌜ Next (now starts) (now ends) stride j (now seen) ⌝ }
+    ensures { λ r. ⌜ r ≡ repeats (now (starts .entry)) (now (ends .entry)) j ⌝ }
+    ensures { λ _. ⌜ Tried (now (starts .entry)) (now (ends .entry)) stride j (now (seen .entry)) (now (seen .exit)) ⌝ }
+{
+    let b = folds::at16(ends, j);
+    let w = folds::at16(starts, j) * stride + b / 64;
+    let old = seen[w];
+    let new = old | pool::bit(b % 64);
+    seen[w] = new;
+    old == new
+}
+
+// Tries the edges from the lowest up, and counts them, to the first that repeats an earlier one. It asks nothing of those past it.
 fn first_repeat(starts: &[u16], ends: &[u16], stride: usize, seen: &mut [u64]) -> Repeated
     requires { ⌜ WordsRoom (now starts) (now ends) stride (length (now seen)) ⌝ }
     requires { ⌜ ((w : ℕ) → getD (now seen) w 0 ≡ 0) ⌝ }
-    ensures { λ r. ⌜ (r .place ≡ firstTo (length (now (starts .entry))) (repeats (now (starts .entry)) (now (ends .entry)))) × (r .tried ≡ tried (r .place) (length (now (starts .entry)))) ⌝ }
+    ensures { λ r. ⌜ Found (now (starts .entry)) (now (ends .entry)) (r .place) (r .tried) ⌝ }
 {
-    let mut j: usize = 0;
-    while j < starts.len() {
-        let b = folds::at16(ends, j);
-        let w = folds::at16(starts, j) * stride + b / 64;
-        let old = seen[w];
-        let new = old | pool::bit(b % 64);
-        if old == new {
+    let mut tried: usize = 0;
+    while tried < starts.len() {
+        let j = tried;
+        tried += 1;
+        if try_edge(starts, ends, j, stride, seen) {
             return Repeated {
                 place: j,
-                tried: j + 1,
+                tried: tried,
             };
         }
-        seen[w] = new;
-        j += 1;
     }
-    Repeated { place: j, tried: j }
+    Repeated {
+        place: tried,
+        tried: tried,
+    }
 }
 
-// Tries the edges from the lowest up as repeats of earlier ones, to the first find. Fewer vertices, fewer words.
+// Where the first repeated edge is, and how many were tried. Fewer vertices, fewer words.
 pub fn find_repeat(n: usize, starts: &[u16], ends: &[u16]) -> Repeated
     requires { ⌜ Fits n (now starts) (now ends) ⌝ }
-    ensures { λ r. ⌜ (r .place ≡ firstTo (length (now (starts .entry))) (repeats (now (starts .entry)) (now (ends .entry)))) × (r .tried ≡ tried (r .place) (length (now (starts .entry)))) ⌝ }
+    ensures { λ r. ⌜ Found (now (starts .entry)) (now (ends .entry)) (r .place) (r .tried) ⌝ }
 {
     if n <= 64 {
         let mut seen = [0u64; 64];
@@ -253,22 +273,32 @@ fn check_repeats(
     levels: &mut [u16; 512],
     head: &mut [u16; 513],
     next: &mut [u16; 1024],
-) -> Verdict
+) -> Checked
     requires { ⌜ Fits n (now starts) (now ends) ⌝ }
     requires { ⌜ (length (now order) ≡ 512) × (length (now next) ≡ 1024) ⌝ }
-    ensures { λ r. ⌜ r ≡ repeatsFrom n (now (starts .entry)) (now (ends .entry)) ⌝ }
-    ensures { λ r. ⌜ OrderLeft r n (now (starts .entry)) (now (ends .entry)) (now (order .entry)) (now (order .exit)) (now (levels .exit)) (now (head .exit)) (now (next .exit)) ⌝ }
+    ensures { λ r. ⌜ r .verdict ≡ repeatsFrom n (now (starts .entry)) (now (ends .entry)) ⌝ }
+    ensures { λ r. ⌜ r .tried ≡ triedBy (r .verdict) (length (now (starts .entry))) ⌝ }
+    ensures { λ r. ⌜ OrderLeft (r .verdict) n (now (starts .entry)) (now (ends .entry)) (now (order .entry)) (now (order .exit)) (now (levels .exit)) (now (head .exit)) (now (next .exit)) ⌝ }
 {
     let found = find_repeat(n, starts, ends);
     let j = found.place;
     if j < starts.len() {
-        return Verdict::Refused(Cause::Repeat, j);
+        return Checked {
+            verdict: Verdict::Refused(Cause::Repeat, j),
+            tried: found.tried,
+        };
     }
     let v = ordering::lowest_on_cycle(starts, ends, n, order, levels, head, next);
     if v < n {
-        return Verdict::Refused(Cause::Cycle, v);
+        return Checked {
+            verdict: Verdict::Refused(Cause::Cycle, v),
+            tried: found.tried,
+        };
     }
-    Verdict::Passed
+    Checked {
+        verdict: Verdict::Passed,
+        tried: found.tried,
+    }
 }
 
 // Checks 5 to 8.
@@ -282,19 +312,26 @@ fn check_costs(
     levels: &mut [u16; 512],
     head: &mut [u16; 513],
     next: &mut [u16; 1024],
-) -> Verdict
+) -> Checked
     requires { ⌜ (length (now costs) ≤ 512) × (length (now starts) ≤ 1024) ⌝ }
     requires { ⌜ (length (now ends) ≡ length (now starts)) × (length (now widths) ≡ length (now starts)) × (length (now order) ≡ 512) × (length (now next) ≡ 1024) ⌝ }
-    ensures { λ r. ⌜ r ≡ costsFrom (graphOf (now (costs .entry)) (now (starts .entry)) (now (ends .entry)) (now (widths .entry))) bound ⌝ }
-    ensures { λ r. ⌜ OrderLeft r (length (now (costs .entry))) (now (starts .entry)) (now (ends .entry)) (now (order .entry)) (now (order .exit)) (now (levels .exit)) (now (head .exit)) (now (next .exit)) ⌝ }
+    ensures { λ r. ⌜ r .verdict ≡ costsFrom (graphOf (now (costs .entry)) (now (starts .entry)) (now (ends .entry)) (now (widths .entry))) bound ⌝ }
+    ensures { λ r. ⌜ r .tried ≡ triedBy (r .verdict) (length (now (starts .entry))) ⌝ }
+    ensures { λ r. ⌜ OrderLeft (r .verdict) (length (now (costs .entry))) (now (starts .entry)) (now (ends .entry)) (now (order .entry)) (now (order .exit)) (now (levels .exit)) (now (head .exit)) (now (next .exit)) ⌝ }
 {
     let v = bad_cost(costs, bound);
     if v < costs.len() {
-        return Verdict::Refused(Cause::Cost, v);
+        return Checked {
+            verdict: Verdict::Refused(Cause::Cost, v),
+            tried: 0,
+        };
     }
     let j = bad_end(costs.len(), starts, ends, widths);
     if j < starts.len() {
-        return Verdict::Refused(Cause::Ends, j);
+        return Checked {
+            verdict: Verdict::Refused(Cause::Ends, j),
+            tried: 0,
+        };
     }
     check_repeats(costs.len(), starts, ends, order, levels, head, next)
 }
@@ -314,22 +351,35 @@ pub fn check(
     levels: &mut [u16; 512],
     head: &mut [u16; 513],
     next: &mut [u16; 1024],
-) -> Verdict
+) -> Checked
     requires { ⌜ (most ≤ 512) × (length (now order) ≡ 512) × (length (now next) ≡ 1024) ⌝ }
-    ensures { λ r. ⌜ r ≡ checked most (graphOf (now (costs .entry)) (now (starts .entry)) (now (ends .entry)) (now (widths .entry))) k bound room ⌝ }
-    ensures { λ r. ⌜ OrderLeft r (length (now (costs .entry))) (now (starts .entry)) (now (ends .entry)) (now (order .entry)) (now (order .exit)) (now (levels .exit)) (now (head .exit)) (now (next .exit)) ⌝ }
+    ensures { λ r. ⌜ r .verdict ≡ checked most (graphOf (now (costs .entry)) (now (starts .entry)) (now (ends .entry)) (now (widths .entry))) k bound room ⌝ }
+    ensures { λ r. ⌜ r .tried ≡ triedBy (r .verdict) (length (now (starts .entry))) ⌝ }
+    ensures { λ r. ⌜ OrderLeft (r .verdict) (length (now (costs .entry))) (now (starts .entry)) (now (ends .entry)) (now (order .entry)) (now (order .exit)) (now (levels .exit)) (now (head .exit)) (now (next .exit)) ⌝ }
 {
     if bad_vertices(most, costs.len()) {
-        return Verdict::Refused(Cause::Vertices, 0);
+        return Checked {
+            verdict: Verdict::Refused(Cause::Vertices, 0),
+            tried: 0,
+        };
     }
     if bad_parts(k, costs.len()) {
-        return Verdict::Refused(Cause::Parts, 0);
+        return Checked {
+            verdict: Verdict::Refused(Cause::Parts, 0),
+            tried: 0,
+        };
     }
     if bad_edges(starts.len(), ends.len(), widths.len()) {
-        return Verdict::Refused(Cause::Edges, 0);
+        return Checked {
+            verdict: Verdict::Refused(Cause::Edges, 0),
+            tried: 0,
+        };
     }
     if !room {
-        return Verdict::Refused(Cause::Room, 0);
+        return Checked {
+            verdict: Verdict::Refused(Cause::Room, 0),
+            tried: 0,
+        };
     }
     check_costs(
         costs,
@@ -341,5 +391,36 @@ pub fn check(
         levels,
         head,
         next,
+    )
+}
+
+// Document 02, b: the check of a kit that is being drawn. Nothing is lent to write to, so that there is no check 4.
+pub fn check_kit(
+    costs: &[u16],
+    starts: &[u16],
+    ends: &[u16],
+    widths: &[u16],
+    k: usize,
+    bound: u32,
+) -> Checked
+    ensures { λ r. ⌜ r ≡ checkOf (graphOf (now (costs .entry)) (now (starts .entry)) (now (ends .entry)) (now (widths .entry))) k bound ⌝ }
+{
+    let mut order = [0u16; 512];
+    let mut levels = [0u16; 512];
+    let mut head = [0u16; 513];
+    let mut next = [0u16; 1024];
+    check(
+        512,
+        costs,
+        starts,
+        ends,
+        widths,
+        k,
+        bound,
+        true,
+        &mut order,
+        &mut levels,
+        &mut head,
+        &mut next,
     )
 }

@@ -1,5 +1,5 @@
 -- the call below answers as defined, and what is told is that answer
-use Rattle.hatchraisin.specs.Told.{oneCell}
+use Rattle.hatchraisin.specs.Told.{cells}
 use mathlib.Core.Path.{ap, _∙_}
 use borrow.Author.Needs.{needs}
 use Rattle.hatchraisin.proofs.hatch_inspect.Statement.{statement}
@@ -14,4 +14,4 @@ hatch-inspect-spec =
     (λ c. search needs)
     (λ c. let t = c .tell-inspect .ensures in
     let r = c .before .before .before .before .inspect .ensures in
-    (t .0 ∙ ap (λ a. a .number) (r .0), (t .1 ∙ ap oneCell (r .0), r .1))))
+    (t .0 ∙ ap (λ a. a .number) (r .0), (t .1 ∙ ap (cells 1) (r .0), r .1))))

@@ -1,5 +1,5 @@
 -- the call below answers as defined, and what is told is that answer
-use Rattle.hatchraisin.specs.Told.{fourCells}
+use Rattle.hatchraisin.specs.Told.{cells}
 use mathlib.Core.Path.{ap, _∙_}
 use borrow.Author.Needs.{needs}
 use Rattle.hatchraisin.proofs.hatch_split.Statement.{statement}
@@ -15,4 +15,4 @@ hatch-split-spec =
     (λ c. search needs)
     (λ c. let t = c .tell-split .ensures in
     let r = c .before .before .before .before .before .before .split .ensures in
-    (t .0 ∙ ap (λ a. a .number) (r .0), (t .1 ∙ ap fourCells (r .0), (r .1 .0, r .1 .1)))))
+    (t .0 ∙ ap (λ a. a .number) (r .0), (t .1 ∙ ap (cells 4) (r .0), (r .1 .0, r .1 .1)))))

@@ -14,7 +14,7 @@ inspect-spec =
     (λ c κs. search needs)
     (λ c κs. search needs)
     (λ c. search needs)
-    (λ c. refused-first _ _ _ _ _ _ _ (c .before .before .before .before .before .before .before .before .enough .ensures) (c .before .before .before .check .ensures .0) (c .before .checked .given .1))
+    (λ c. refused-first _ _ _ _ _ _ _ (c .before .before .before .before .before .before .before .before .enough .ensures) (c .before .before .before .check .ensures .0) (c .before .verdict .given .1))
     (λ c. search needs)
     (λ c. let a = c .before .before .before .before .before .before .before .before .before .before .before .before .before .before .before .args in sym (tabled _ _ _ (a .table .now) (a .order .now) _ _ (c .before .before .before .before .before .before .before .before .enough .ensures) (c .before .before .before .check .ensures .0) (c .before .enum-told .given .1) .whole))
     (λ c κs. let a = c .before .before .before .before .before .before .before .before .before .before .before .before .before .before .before .before .args in tabled _ _ _ (a .table .now) (a .order .now) _ _ (c .before .before .before .before .before .before .before .before .before .enough .ensures) (c .before .before .before .before .check .ensures .0) (c .before .before .enum-told .given .1))

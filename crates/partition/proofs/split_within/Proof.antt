@@ -28,14 +28,14 @@ split-within-spec =
     (λ c. search needs)
     (λ c. let t = c .before .before .before in
     let s = start t in
-    let w = refused-first _ (s .pre) _ _ _ (s .args .table .now) (s .args .rows .now) _ _ (room t .enough .ensures) (t .check .ensures .0) (c .before .checked .given .1) in (w .0, (w .1, w .2)))
+    let w = refused-first _ (s .pre) _ _ _ (s .args .table .now) (s .args .rows .now) _ _ (room t .enough .ensures) (t .check .ensures .0) (c .before .verdict .given .1) in (w .0, (w .1, w .2)))
     (λ c. search needs)
     (λ c κs. let e = c .before .before .before .before .before .before in
     let t = tested e in
     let s = start t in
     let v = t .check .ensures in
     let p = e .enum-told .given .1 in
-    (sound _ (s .pre) _ _ _ (s .args .table .now) (s .args .rows .now) _ _ (room t .enough .ensures) (v .0) p, (rooms _ (s .pre) _ _ _ (s .args .table .now) (s .args .rows .now) _ _ (room t .enough .ensures) (v .0) p, (ordered _ (s .pre) _ _ _ (s .args .table .now) (s .args .rows .now) _ _ (room t .enough .ensures) (v .0) p refl (v .1), (v .1 .linked p, v .1 .levels p)))))
+    (sound _ (s .pre) _ _ _ (s .args .table .now) (s .args .rows .now) _ _ (room t .enough .ensures) (v .0) p, (rooms _ (s .pre) _ _ _ (s .args .table .now) (s .args .rows .now) _ _ (room t .enough .ensures) (v .0) p, (ordered _ (s .pre) _ _ _ (s .args .table .now) (s .args .rows .now) _ _ (room t .enough .ensures) (v .0) p refl (v .1 .1), (v .1 .1 .linked p, v .1 .1 .levels p)))))
     (λ c. search needs)
     (λ c. search needs)
     (λ c. search needs)
