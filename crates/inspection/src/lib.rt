@@ -181,24 +181,7 @@ pub fn inspect(
 {
     let n = costs.len();
     let room = enough(table.len(), n, order.len(), k);
-    let mut taken = [0u16; 512];
-    let mut levels = [0u16; 512];
-    let mut head = [0u16; 513];
-    let mut next = [0u16; 1024];
-    let checked = validity::check(
-        512,
-        costs,
-        starts,
-        ends,
-        widths,
-        k,
-        bound,
-        room,
-        &mut taken,
-        &mut levels,
-        &mut head,
-        &mut next,
-    );
+    let checked = validity::check_bare(512, costs, starts, ends, widths, k, bound, room);
     let verdict = checked.verdict;
     if let Verdict::Refused(cause, place) = verdict {
         return Inspected::Failed(cause, place);

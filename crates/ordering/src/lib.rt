@@ -4,7 +4,7 @@ ghost use mathlib.Core.Bool.{true};
 ghost use mathlib.Core.Logic.{_⊎_};
 ghost use Prim.Native.Nat.{ℕ, _+_, _<_, _≤_};
 ghost use lib.ListN.{length, getD};
-ghost use Rattle.folds.specs.Fold.{pick, sumTo, over, zeros};
+ghost use Rattle.folds.specs.Fold.{pick, when, sumTo, over, zeros};
 ghost use Rattle.graph.specs.Walk.{Walk};
 ghost use Rattle.graph.specs.Graph.{joining, Edge, Inside};
 ghost use Rattle.graph.specs.Links.{Linked, Ended, leave};
@@ -14,6 +14,7 @@ ghost use Rattle.topology.specs.Reach.{onCycle, lowestOnCycle};
 ghost use Rattle.ordering.specs.Search.{marked, Queued, Spread, Entered, OffCycles, SetAside, Ordering};
 ghost use Rattle.ordering.specs.Counts.{gone, Counted, TakenOff, Released, Across, openAt};
 ghost use Rattle.ordering.specs.Sweep.{raisedOf, Raised};
+ghost use Rattle.ordering.specs.Line.{Lined, Less, Fallen, Freed};
 ghost use Rattle.pool.specs.Pool.{Kept, putOf};
 ghost use lib.Dec.{eqb};
 
@@ -398,4 +399,197 @@ pub fn lowest_on_cycle(
         return g;
     }
     search_rest(starts, ends, head, next, g, taken, count)
+}
+
+// 1 where nothing is waited for, else 0: a number, so that the queue grows without a branch.
+fn none_left(c: u16) -> usize
+    ensures { λ r. ⌜ (r ≡ when (eqb c 0) 1) × (r ≤ 1) ⌝ }
+{
+    if c == 0 { 1 } else { 0 }
+}
+
+// Puts b at the end of the queue where it waits for nothing and there is room. Answers how many the queue then holds.
+fn line_up(count: &[u16; 512], b: usize, queue: &mut [u16; 512], t: usize) -> usize
+    requires { ⌜ b < 512 ⌝ }
+    requires { ⌜ Lined (now count) (now queue) t ⌝ }
+    ensures { λ r. ⌜ Lined (now (count .entry)) (now (queue .exit)) r ⌝ }
+{
+    if t >= 512 {
+        return t;
+    }
+    queue[t] = b as u16;
+    t + none_left(count[b])
+}
+
+// The clusters below g that wait for nothing. Answers how many the queue holds.
+fn line_first(count: &[u16; 512], g: usize, queue: &mut [u16; 512]) -> usize
+    requires { ⌜ (g ≤ 512) × (length (now queue) ≡ 512) ⌝ }
+    ensures { λ r. ⌜ Lined (now (count .entry)) (now (queue .exit)) r ⌝ }
+{
+    let mut t: usize = 0;
+    let mut i: usize = 0;
+    while i < g {
+        t = line_up(count, i, queue, t);
+        i += 1;
+    }
+    t
+}
+
+// Takes an edge into b off the counts, and puts b into the queue where it was the last.
+fn lower(b: usize, count: &mut [u16; 512], queue: &mut [u16; 512], t: usize) -> usize
+    requires { ⌜ (b < 512) × (0 < getD (now count) b 0) ⌝ }
+    requires { ⌜ length (now count) ≡ 512 ⌝ }
+    requires { ⌜ Lined (now count) (now queue) t ⌝ }
+    ensures { λ r. ⌜ Less b (now (count .entry)) (now (count .exit)) (now (queue .exit)) r ⌝ }
+{
+    count[b] = count[b] - 1;
+    line_up(count, b, queue, t)
+}
+
+// Takes the edges of u off the counts, and puts what then waits for nothing into the queue.
+fn release_to(
+    starts: &[u16],
+    ends: &[u16],
+    head: &[u16; 513],
+    next: &[u16; 1024],
+    u: usize,
+    count: &mut [u16; 512],
+    queue: &mut [u16; 512],
+    t: usize,
+) -> usize
+    requires { ⌜ Ended (now starts) (now ends) ⌝ }
+    requires { ⌜ Linked (leave (joining (now starts) (now ends))) (length (now starts)) (now head) (now next) ⌝ }
+    requires { ⌜ (u < 512) × (length (now count) ≡ 512) ⌝ }
+    requires { ⌜ ((v : ℕ) → v < 512 → sumTo (length (now starts)) (gone (joining (now starts) (now ends)) u v) ≤ getD (now count) v 0) ⌝ }
+    requires { ⌜ Lined (now count) (now queue) t ⌝ }
+    ensures { λ r. ⌜ Fallen (joining (now (starts .entry)) (now (ends .entry))) u (length (now (starts .entry))) (now (count .entry)) (now (count .exit)) (now (queue .exit)) r ⌝ }
+{
+    let m = starts.len();
+    let mut size = t;
+    let mut j = folds::wide(head[u]);
+    while j < m {
+        let b = graph::end_at(ends, j);
+        size = lower(b, count, queue, size);
+        j = folds::wide(next[j]);
+    }
+    size
+}
+
+// Takes u, which waits for nothing, unless it was taken. Answers how many the queue then holds.
+fn take(
+    starts: &[u16],
+    ends: &[u16],
+    head: &[u16; 513],
+    next: &[u16; 1024],
+    u: usize,
+    marks: &mut [u8; 512],
+    count: &mut [u16; 512],
+    queue: &mut [u16; 512],
+    t: usize,
+) -> usize
+    requires { ⌜ Ended (now starts) (now ends) ⌝ }
+    requires { ⌜ Linked (leave (joining (now starts) (now ends))) (length (now starts)) (now head) (now next) ⌝ }
+    requires { ⌜ (u < 512) × (getD (now count) u 0 ≡ 0) ⌝ }
+    requires { ⌜ Freed (joining (now starts) (now ends)) (now marks) (now count) (now queue) t ⌝ }
+    ensures { λ r. ⌜ Freed (joining (now (starts .entry)) (now (ends .entry))) (now (marks .exit)) (now (count .exit)) (now (queue .exit)) r ⌝ }
+{
+    if marks[u] != 0 {
+        return t;
+    }
+    marks[u] = 1;
+    release_to(starts, ends, head, next, u, count, queue, t)
+}
+
+// Takes what is in the queue, and what comes into it. Answers how many it held.
+fn take_all(
+    starts: &[u16],
+    ends: &[u16],
+    head: &[u16; 513],
+    next: &[u16; 1024],
+    marks: &mut [u8; 512],
+    count: &mut [u16; 512],
+    queue: &mut [u16; 512],
+    t: usize,
+) -> usize
+    requires { ⌜ Ended (now starts) (now ends) ⌝ }
+    requires { ⌜ Linked (leave (joining (now starts) (now ends))) (length (now starts)) (now head) (now next) ⌝ }
+    requires { ⌜ Freed (joining (now starts) (now ends)) (now marks) (now count) (now queue) t ⌝ }
+    ensures { λ r. ⌜ Freed (joining (now (starts .entry)) (now (ends .entry))) (now (marks .exit)) (now (count .exit)) (now (queue .exit)) r ⌝ }
+{
+    let mut size = t;
+    let mut n: usize = 0;
+    while n < size {
+        let u = folds::wide(queue[n]);
+        size = take(starts, ends, head, next, u, marks, count, queue, size);
+        n += 1;
+    }
+    size
+}
+
+// Whether the first g are marked.
+fn are_marked(marks: &[u8; 512], g: usize) -> bool
+    requires { ⌜ g ≤ 512 ⌝ }
+    ensures { λ r. ⌜ (r ≡ true → (v : ℕ) → v < g → marked (now (marks .entry)) v ≡ true) ⌝ }
+{
+    let mut i: usize = 0;
+    while i < g {
+        if marks[i] == 0 {
+            return false;
+        }
+        i += 1;
+    }
+    true
+}
+
+// Whether all g clusters could be taken, each after its predecessors: then none lies on a cycle. False says nothing.
+fn is_free(starts: &[u16], ends: &[u16], g: usize) -> bool
+    requires { ⌜ Ended (now starts) (now ends) ⌝ }
+    requires { ⌜ Inside (joining (now starts) (now ends)) g ⌝ }
+    requires { ⌜ g ≤ 512 ⌝ }
+    ensures { λ r. ⌜ (r ≡ true → lowestOnCycle (joining (now (starts .entry)) (now (ends .entry))) g ≡ g) ⌝ }
+{
+    let mut head = [0u16; 513];
+    let mut next = [0u16; 1024];
+    let mut count = [0u16; 512];
+    let mut queue = [0u16; 512];
+    let mut marks = [0u8; 512];
+    graph::link_leaving(starts, ends, &mut head, &mut next);
+    counts(starts, ends, &mut count);
+    let t = line_first(&count, g, &mut queue);
+    take_all(
+        starts,
+        ends,
+        &head,
+        &next,
+        &mut marks,
+        &mut count,
+        &mut queue,
+        t,
+    );
+    are_marked(&marks, g)
+}
+
+// The lowest of g clusters that lies on a cycle, or g, where nothing else of the order is wanted.
+pub fn find_cycle(starts: &[u16], ends: &[u16], g: usize) -> usize
+    requires { ⌜ Ended (now starts) (now ends) ⌝ }
+    requires { ⌜ Inside (joining (now starts) (now ends)) g ⌝ }
+    requires { ⌜ g ≤ 512 ⌝ }
+    ensures { λ r. ⌜ r ≡ lowestOnCycle (joining (now (starts .entry)) (now (ends .entry))) g ⌝ }
+{
+    if is_free(starts, ends, g) {
+        return g;
+    }
+    let mut taken = [0u16; 512];
+    let mut levels = [0u16; 512];
+    let mut head = [0u16; 513];
+    let mut next = [0u16; 1024];
+    lowest_on_cycle(
+        starts,
+        ends,
+        g,
+        &mut taken,
+        &mut levels,
+        &mut head,
+        &mut next,
+    )
 }

@@ -8,7 +8,7 @@ use Rattle.graph.specs.Table.{sizeOf, partSize}
 use Rattle.topology.specs.Level.{rise, levelsAfter, levelsOf, nextIn}
 use Rattle.topology.specs.Order.{waits, ready, orNone, orderFrom, orderOf, placeIn}
 use Rattle.topology.specs.Reach.{spreads, grown, reachedAfter, onCycle, lowestOnCycle}
-use Rattle.validity.specs.Check.{refuseAt, badVertices, badParts, badEdges, badCost, badEnds, repeats, cyclesFrom, repeatsFrom, endsFrom, costsFrom, checked}
+use Rattle.validity.specs.Check.{refuseAt, badVertices, badParts, badEdges, badCost, badEnds, repeats, cyclesFrom, repeatsFrom, listsFrom, checked}
 use Rattle.inspection.specs.Table.{badEntry, isEmpty, isOver, cyclesFrom as partCycles, tableOf}
 use Rattle.inspection.specs.Inspect.{partsOf as tablePart, verdictOf as inspected, inspectOf, orderAfter}
 use Rattle.contraction.specs.Tests.{allOf, onlySuccessor, onlyPredecessor, ruleOne, ruleTwo, fits as keepsRules}
@@ -24,5 +24,5 @@ use Rattle.partition.specs.Split.{roomFor, verdictOf, splitOf, tableAfter, rows
 use Rattle.starred_cases.specs.Starred.{splits, inspects, holds, every, starred}
 
 pub starred-hold : every starred ≡ true
-unfolding sumTo countTo maxTo firstTo anyTo allTo listTo turns bestTo zeros over identity edge widthOf crossing cut costIn partCost clusters rise levelsAfter levelsOf waits ready orNone orderFrom orderOf placeIn spreads grown reachedAfter onCycle lowestOnCycle refuseAt badVertices badParts badEdges badCost badEnds repeats cyclesFrom repeatsFrom endsFrom costsFrom checked badEntry isEmpty isOver partCycles tableOf tablePart inspected inspectOf orderAfter allOf nextIn onlySuccessor onlyPredecessor ruleOne ruleTwo keepsRules mateOf together lowestOf leads numbered joinedRow mayTake offer widest taken visit visits roundOf large poor kept above rowsOf keptOf rowOf flat rowsAfter fits intervalOf between joined startsFrom divisions least placesIn runSize roomy partsOf leastParts initialOf highest chosenOf sizeOf partSize movedTo partOf leaves share pull gainTo largerCost lowered raised lowestNext aboveBefore stays allows isCandidate improves target settledAt visited passOf spread mostSpread measure passes repeated refinedOn refinedBelow refined firstOf resultOf roomFor verdictOf splitOf tableAfter rowsLeft same splits inspects holds every starred
+unfolding sumTo countTo maxTo firstTo anyTo allTo listTo turns bestTo zeros over identity edge widthOf crossing cut costIn partCost clusters rise levelsAfter levelsOf waits ready orNone orderFrom orderOf placeIn spreads grown reachedAfter onCycle lowestOnCycle refuseAt badVertices badParts badEdges badCost badEnds repeats cyclesFrom repeatsFrom listsFrom checked badEntry isEmpty isOver partCycles tableOf tablePart inspected inspectOf orderAfter allOf nextIn onlySuccessor onlyPredecessor ruleOne ruleTwo keepsRules mateOf together lowestOf leads numbered joinedRow mayTake offer widest taken visit visits roundOf large poor kept above rowsOf keptOf rowOf flat rowsAfter fits intervalOf between joined startsFrom divisions least placesIn runSize roomy partsOf leastParts initialOf highest chosenOf sizeOf partSize movedTo partOf leaves share pull gainTo largerCost lowered raised lowestNext aboveBefore stays allows isCandidate improves target settledAt visited passOf spread mostSpread measure passes repeated refinedOn refinedBelow refined firstOf resultOf roomFor verdictOf splitOf tableAfter rowsLeft same splits inspects holds every starred
 starred-hold = refl

@@ -7,19 +7,21 @@ use native.Mathlib.Omega.{arith}
 use lib.Dec.{eqb, ltb, leb}
 use lib.ListN.{length, getD}
 use borrow.Author.Tests.{eqb-true, eq-eqb, ltb-false, leb-false, lt-ltb, le-ltb}
-use Rattle.folds.specs.Fold.{when, countTo, firstTo, anyTo, over, zeros}
-use Rattle.folds.proofs.Cases.{no-bool, not-no, not-yes}
+use Rattle.folds.specs.Fold.{pick, when, countTo, firstTo, anyTo, over, zeros}
+use Rattle.folds.proofs.Cases.{by, no-bool, not-no, not-yes}
 use Rattle.folds.proofs.Sums.{sumTo-zero, sumTo-turn}
 use Rattle.folds.proofs.Searches.{firstTo-le, firstTo-none, count-none}
-use Rattle.graph.specs.Graph.{identity, Arcs, arcs, joining, Inside}
+use Rattle.graph.specs.Graph.{Graph, vertices, edges, identity, Arcs, arcs, joining, Inside}
 use Rattle.graph.specs.Links.{Ended, Linked, leave}
 use Rattle.graph.proofs.Edges.{joining-is}
 use Rattle.topology.specs.Reach.{onCycle, lowestOnCycle}
 use Rattle.topology.specs.Order.{orderOf}
 use Rattle.topology.specs.Level.{levelsOf}
 use Rattle.validity.specs.Contracts.{Fits, OrderLeft}
-use Rattle.validity.specs.Check.{refuseAt, badVertices, badEdges, badEnds}
+use Rattle.validity.specs.Check.{refuseAt, badVertices, badParts, badEdges, badCost, badEnds, cyclesFrom, listsFrom}
+use Rattle.validity.specs.Drawn.{triedBy}
 use Rattle.validity.specs.declared.Cause.{Cause}
+use Rattle.validity.specs.declared.Cause.the-variants.{Vertices, Parts, Edges, Room, Cost, Ends, Cycle}
 use Rattle.validity.specs.declared.Verdict.{Verdict}
 use Rattle.validity.specs.declared.Verdict.the-variants.{Passed, Refused}
 
@@ -53,6 +55,32 @@ module _ (cause : Cause) (i j n : ℕ) (x : Verdict) where
   unfolding refuseAt
   at-pass v e l h = rw (← e, le-ltb _ _ l) h
 
+pub not-passed : {cause : Cause} {place : ℕ} → Refused cause place ≡ Passed → ⊥
+not-passed e = let z : _≡_ {A = ℕ} 0 1 = cc in omega arith
+
+-- checks that come before the search for a repeated edge: where they pass, what is found next counts; where they refuse, it does not, and no edge was tried
+pub record Early (f : Verdict → Verdict) : Type 0 where
+  pub passes : f Passed ≡ Passed → (next : Verdict) → f next ≡ next
+  pub refuses : {cause : Cause} {place : ℕ} → f Passed ≡ Refused cause place → (next : Verdict) (m : ℕ) → (f next ≡ Refused cause place) × (triedBy (Refused cause place) m ≡ 0)
+
+early-none : Early (λ v. v)
+early-none = record { passes = λ _ _. refl; refuses = λ e. absurd (not-passed (sym e)) }
+
+early-more : (fault : Bool) (cause : Cause) (place : ℕ) {f : Verdict → Verdict} → ((m : ℕ) → triedBy (Refused cause place) m ≡ 0) → Early f → Early (λ v. pick fault (Refused cause place) (f v))
+early-more true cause place z E =
+    record { passes = λ e. absurd (not-passed e); refuses = λ e next m. (e, ap (λ (v : Verdict). triedBy v m) (sym e) ∙ z m) }
+early-more false cause place z E = E
+
+pub lists-early : (most : ℕ) (G : Graph) (k bound : ℕ) (room : Bool) → Early (listsFrom most G k bound room)
+unfolding listsFrom refuseAt triedBy
+lists-early most G k bound room =
+    early-more (badVertices most (vertices G)) Vertices 0 (λ _. refl)
+    (early-more (badParts k (vertices G)) Parts 0 (λ _. refl)
+    (early-more (badEdges (length (G .starts)) (length (G .ends)) (length (G .widths))) Edges 0 (λ _. refl)
+    (early-more (not room) Room 0 (λ _. refl)
+    (early-more (ltb (firstTo (vertices G) (badCost (G .costs) bound)) (vertices G)) Cost _ (λ _. refl)
+    (early-more (ltb (firstTo (edges G) (badEnds (vertices G) (G .starts) (G .ends) (G .widths))) (edges G)) Ends _ (λ _. refl) early-none)))))
+
 pub neither : (a b : Bool) → (a || b) ≡ false → (a ≡ false) × (b ≡ false)
 neither true b e = absurd (no-bool (sym e))
 neither false b e = (refl, e)
@@ -73,6 +101,10 @@ ends-fit n starts ends widths few many same e =
     fine : (j : ℕ) → j < length starts → badEnds n starts ends widths j ≡ false
     fine = firstTo-none (length starts) (badEnds n starts ends widths) e
 
+passed-past : {i n : ℕ} → refuseAt Cycle i n Passed ≡ Passed → n ≤ i
+unfolding refuseAt
+passed-past {i} {n} e = by (ltb i n) (λ t. absurd (not-passed (rw t at e))) (λ f. ltb-false i n f)
+
 module _ {n : ℕ} {starts ends : List ℕ} (F : Fits n starts ends) where
   pub fit-ended : Ended starts ends
   fit-ended =
@@ -89,21 +121,23 @@ module _ {n : ℕ} {starts ends : List ℕ} (F : Fits n starts ends) where
   own-row : arcs (identity n) starts ends ≡ joining starts ends
   own-row = joining-is n starts ends (F .start-in) (λ j h. F .end-in j (omega (arith, F .same)))
 
-  pub cycle-own : {v : ℕ} → v ≡ lowestOnCycle (joining starts ends) n → v ≡ lowestOnCycle (arcs (identity n) starts ends) n
-  cycle-own e = e ∙ ap (λ (A : Arcs). lowestOnCycle A n) (sym own-row)
+  -- check 8, from the lowest on a cycle
+  pub cycle-own : {v : ℕ} → v ≡ lowestOnCycle (joining starts ends) n → refuseAt Cycle v n Passed ≡ cyclesFrom n starts ends
+  unfolding cyclesFrom
+  cycle-own e = ap (λ (x : ℕ). refuseAt Cycle x n Passed) (e ∙ ap (λ (A : Arcs). lowestOnCycle A n) (sym own-row))
 
   -- none lies on a cycle
   cycle-none : {v : ℕ} → v ≡ lowestOnCycle (joining starts ends) n → n ≤ v → v ≡ n
   unfolding lowestOnCycle
   cycle-none e l = omega (arith, e, firstTo-le n (onCycle (joining starts ends) n))
 
-  pub order-own : {r : Verdict} {old new levels head next : List ℕ} {v : ℕ} → v ≡ lowestOnCycle (joining starts ends) n → n ≤ v → new ≡ over (orderOf (joining starts ends) n) old
+  pub order-own : {r : Verdict} {old new levels head next : List ℕ} {v : ℕ} → v ≡ lowestOnCycle (joining starts ends) n → r ≡ refuseAt Cycle v n Passed → new ≡ over (orderOf (joining starts ends) n) old
       → (v ≡ n → levels ≡ over (levelsOf (joining starts ends) n) (zeros 512)) → Linked (leave (joining starts ends)) (length starts) head next
       → OrderLeft r n starts ends old new levels head next
   order-own {old = old} e l o h L =
       record {
         order = λ _. o ∙ ap (λ (A : Arcs). over (orderOf A n) old) (sym own-row);
-        levels = λ _. h (cycle-none e l) ∙ ap (λ (A : Arcs). over (levelsOf A n) (zeros 512)) (sym own-row);
+        levels = λ p. h (cycle-none e (passed-past (sym l ∙ p))) ∙ ap (λ (A : Arcs). over (levelsOf A n) (zeros 512)) (sym own-row);
         linked = λ _. L;
       }
 
@@ -124,8 +158,5 @@ ends-fit-left n j starts ends widths few many same e l =
     ends-fit n starts ends widths few many same (omega (arith, e, firstTo-le (length starts) (badEnds n starts ends widths)))
 
 -- a refusal leaves no order
-not-passed : {cause : Cause} {place : ℕ} → Refused cause place ≡ Passed → ⊥
-not-passed e = let z : _≡_ {A = ℕ} 0 1 = cc in omega arith
-
-pub refused-order : {cause : Cause} {place n : ℕ} {starts ends old new levels head next : List ℕ} → OrderLeft (Refused cause place) n starts ends old new levels head next
-refused-order = record { order = λ e. absurd (not-passed e); levels = λ e. absurd (not-passed e); linked = λ e. absurd (not-passed e) }
+pub refused-order : {r : Verdict} {cause : Cause} {place n : ℕ} {starts ends old new levels head next : List ℕ} → r ≡ Refused cause place → OrderLeft r n starts ends old new levels head next
+refused-order e = record { order = λ p. absurd (not-passed (sym e ∙ p)); levels = λ p. absurd (not-passed (sym e ∙ p)); linked = λ p. absurd (not-passed (sym e ∙ p)) }

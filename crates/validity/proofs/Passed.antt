@@ -16,7 +16,7 @@ use Rattle.graph.proofs.Edges.{row-inside, identity-row}
 use Rattle.topology.specs.Reach.{lowestOnCycle}
 use Rattle.topology.proofs.Reaches.{none-acyclic, lowest-none}
 use Rattle.validity.specs.Sound.{Sound}
-use Rattle.validity.specs.Check.{mostVertices, refuseIf, refuseAt, badVertices, badParts, badEdges, badCost, badEnds, repeats, cyclesFrom, repeatsFrom, endsFrom, costsFrom, checked, Valid}
+use Rattle.validity.specs.Check.{mostVertices, refuseIf, refuseAt, badVertices, badParts, badEdges, badCost, badEnds, repeats, cyclesFrom, repeatsFrom, listsFrom, checked, Valid}
 use Rattle.validity.specs.Cause.{numberOf, Answer, refusal, ifPassed}
 use Rattle.validity.specs.declared.Cause.{Cause}
 use Rattle.validity.specs.declared.Cause.the-variants.{Vertices, Parts, Edges, Room, Cost, Ends, Repeat, Cycle, Uncut, Entry, Empty, Over, PartCycle, Length, Line, Lines}
@@ -40,24 +40,27 @@ passed-if true cause x e = let z : _≡_ {A = ℕ} 0 1 = cc in absurd (omega ari
 passed-if false cause x e = (refl, e)
 
 module _ (G : Graph) (k bound : ℕ) (valid : Valid G k bound) where
-  first-three : (badVertices 512 (vertices G) ≡ false) × (badParts k (vertices G) ≡ false) × (badEdges (length (G .starts)) (length (G .ends)) (length (G .widths)) ≡ false) × (costsFrom G bound ≡ Passed)
-  unfolding checked
+  first-three : (badVertices 512 (vertices G) ≡ false) × (badParts k (vertices G) ≡ false) × (badEdges (length (G .starts)) (length (G .ends)) (length (G .widths)) ≡ false)
+  unfolding checked listsFrom
   first-three =
       let (a, r1) = passed-if (badVertices 512 (vertices G)) _ _ valid in
       let (b, r2) = passed-if (badParts k (vertices G)) _ _ r1 in
-      let (c, r3) = passed-if (badEdges (length (G .starts)) (length (G .ends)) (length (G .widths))) _ _ r2 in
-      (a, b, c, r3)
+      let (c, _) = passed-if (badEdges (length (G .starts)) (length (G .ends)) (length (G .widths))) _ _ r2 in
+      (a, b, c)
 
   last-four : ((v : ℕ) → v < vertices G → badCost (G .costs) bound v ≡ false)
       × ((j : ℕ) → j < edges G → badEnds (vertices G) (G .starts) (G .ends) (G .widths) j ≡ false)
       × ((j : ℕ) → j < edges G → repeats (G .starts) (G .ends) j ≡ false)
       × (cyclesFrom (vertices G) (G .starts) (G .ends) ≡ Passed)
-  unfolding costsFrom endsFrom repeatsFrom
+  unfolding checked listsFrom repeatsFrom
   last-four =
-      let (a, r1) = passed-at _ (vertices G) (badCost (G .costs) bound) _ (first-three .3) in
-      let (b, r2) = passed-at _ (edges G) (badEnds (vertices G) (G .starts) (G .ends) (G .widths)) _ r1 in
-      let (c, r3) = passed-at _ (edges G) (repeats (G .starts) (G .ends)) _ r2 in
-      (a, b, c, r3)
+      let (_, r1) = passed-if (badVertices 512 (vertices G)) _ _ valid in
+      let (_, r2) = passed-if (badParts k (vertices G)) _ _ r1 in
+      let (_, r3) = passed-if (badEdges (length (G .starts)) (length (G .ends)) (length (G .widths))) _ _ r2 in
+      let (a, r4) = passed-at _ (vertices G) (badCost (G .costs) bound) _ r3 in
+      let (b, r5) = passed-at _ (edges G) (badEnds (vertices G) (G .starts) (G .ends) (G .widths)) _ r4 in
+      let (c, r6) = passed-at _ (edges G) (repeats (G .starts) (G .ends)) _ r5 in
+      (a, b, c, r6)
 
   ends-good : (j : ℕ) → j < edges G → (getD (G .starts) j 0 < vertices G) × (getD (G .ends) j 0 < vertices G) × (getD (G .starts) j 0 ≡ getD (G .ends) j 0 → ⊥) × (0 < getD (G .widths) j 0)
   unfolding badEnds
@@ -159,7 +162,7 @@ module _ (G : Graph) (k bound : ℕ) (S : Sound G k bound) where
 
   -- a sound graph is valid: a call refuses for the causes that document 01 lists, and for no other
   pub sound-valid : Valid G k bound
-  unfolding checked costsFrom endsFrom repeatsFrom cyclesFrom
+  unfolding checked listsFrom repeatsFrom cyclesFrom
   sound-valid =
       rw (no-vertices, no-parts, no-edges)
       (pass-at _ _ _ _ (firstTo-all _ _ no-cost) ∙ pass-at _ _ _ _ (firstTo-all _ _ no-ends) ∙ pass-at _ _ _ _ (firstTo-all _ _ no-repeat) ∙ pass-at _ _ _ _ no-cycle)
@@ -170,7 +173,7 @@ valid-exactly G k bound = (valid-sound G k bound, sound-valid G k bound)
 
 -- the tables that the caller lends, and fewer vertices, do not matter to it
 pub passed-valid : (most : ℕ) (G : Graph) (k bound : ℕ) (room : Bool) → most ≤ 512 → checked most G k bound room ≡ Passed → (Valid G k bound) × (room ≡ true)
-unfolding checked badVertices
+unfolding checked listsFrom badVertices
 passed-valid most G k bound room l e =
     let (a, r1) = passed-if (badVertices most (vertices G)) _ _ e in
     let (b, r2) = passed-if (badParts k (vertices G)) _ _ r1 in
@@ -180,14 +183,14 @@ passed-valid most G k bound room l e =
     (rw (z, le-ltb 512 (vertices G) (omega (arith, ltb-false most (vertices G) f)), b, c) r4, not-no room d)
 
 pub passed-few : (most : ℕ) (G : Graph) (k bound : ℕ) (room : Bool) → checked most G k bound room ≡ Passed → vertices G ≤ most
-unfolding checked badVertices
+unfolding checked listsFrom badVertices
 passed-few most G k bound room e =
     let (a, _) = passed-if (badVertices most (vertices G)) _ _ e in
     let (_, f) = neither (eqb (vertices G) 0) _ a in ltb-false most (vertices G) f
 
 -- of the most vertices only that they are enough counts
 pub valid-most : (most : ℕ) (G : Graph) (k bound : ℕ) → Valid G k bound → vertices G ≤ most → checked most G k bound true ≡ Passed
-unfolding checked badVertices
+unfolding checked listsFrom badVertices
 valid-most most G k bound valid few =
     let (a, r) = passed-if (badVertices mostVertices (vertices G)) _ _ valid in
     let (z, _) = neither (eqb (vertices G) 0) _ a in rw (z, le-ltb most (vertices G) few) r

@@ -14,16 +14,19 @@ use borrow.Author.Tests.{eqb-true, eq-eqb, ne-eqb, ltb-true, ltb-false}
 use Rattle.folds.specs.Fold.{firstTo, anyTo, Read}
 use Rattle.folds.proofs.Cases.{by, no-bool, either, eq-or-ne, both, both-i, and-false, same-test}
 use Rattle.folds.proofs.Searches.{firstTo-none, firstTo-hit, any-i, any-ext, any-step, any-zero}
-use Rattle.graph.specs.Graph.{identity, arcs}
+use Rattle.graph.specs.Graph.{Graph, vertices, edges, identity, arcs}
 use Rattle.topology.specs.Reach.{lowestOnCycle}
 use Rattle.pool.specs.Pool.{word}
 use Rattle.pool.proofs.Words.{word-ext, word-none, word-bit, word-or}
-use Rattle.validity.specs.Check.{refuseAt, repeats, cyclesFrom, repeatsFrom}
+use Rattle.validity.specs.Check.{refuseAt, repeats, cyclesFrom, repeatsFrom, listsFrom, checked}
 use Rattle.validity.specs.Contracts.{Fits}
-use Rattle.validity.specs.Repeat.{firstRepeat, tried, triedOf, Found}
-use Rattle.validity.specs.Drawn.{triedBy}
+use Rattle.validity.specs.Repeat.{firstRepeat, tried, triedOf}
+use Rattle.validity.specs.Drawn.{triedBy, checkedWith}
 use Rattle.validity.specs.declared.Checked.{Checked}
+use Rattle.validity.specs.declared.Cause.{Cause}
 use Rattle.validity.specs.declared.Verdict.{Verdict}
+use Rattle.validity.specs.declared.Verdict.the-variants.{Passed, Refused}
+use Rattle.validity.proofs.Checks.{lists-early}
 use Rattle.validity.specs.Words.{WordsRoom, wordOf, isBit, BitsSet, Next, Tried}
 
 -- a search that found none so far goes on to an edge that it tries
@@ -53,12 +56,18 @@ tried-found n starts ends =
     by (ltb (firstRepeat starts ends) (length starts)) (λ t. rw t refl)
     (λ f. rw f (by (ltb (lowestOnCycle (arcs (identity n) starts ends) n) n) (λ t. rw t refl) (λ g. rw g refl)))
 
-pub tried-told : {n : ℕ} {starts ends : List ℕ} {v : Verdict} {place count : ℕ} → Fits n starts ends → Found starts ends place count → v ≡ repeatsFrom n starts ends → count ≡ triedBy v (length starts)
-tried-told {n} {starts} {ends} _ f e = f .count-is ∙ sym (tried-found n starts ends) ∙ ap (λ (v : Verdict). triedBy v (length starts)) (sym e)
+-- all checks, from 1 to 6: refused there no edge was tried, passed there the rest decides
+module _ (most : ℕ) (G : Graph) (k bound : ℕ) (room : Bool) {r : Verdict} (e : r ≡ listsFrom most G k bound room Passed) where
+  pub lists-refused : {cause : Cause} {place : ℕ} → r ≡ Refused cause place → record { verdict = Refused cause place; tried = 0 } ≡ checkedWith (checked most G k bound room) (edges G)
+  unfolding checked
+  lists-refused {cause} {place} h =
+      let (q, z) = lists-early most G k bound room .refuses (sym e ∙ h) (repeatsFrom (vertices G) (G .starts) (G .ends)) (edges G) in rw q (ap (λ (x : ℕ). record { verdict = Refused cause place; tried = x }) (sym z))
 
--- a verdict with its count, whole
-pub checked-whole : {r : Checked} {v : Verdict} (m : ℕ) → r .verdict ≡ v → r .tried ≡ triedBy (r .verdict) m → r ≡ record { verdict = v; tried = triedBy v m }
-checked-whole {r} m e t = rw (← e) (ap (λ (x : ℕ). record { verdict = r .verdict; tried = x }) t)
+  pub lists-passed : {x : Checked} → r ≡ Passed → (x .verdict ≡ repeatsFrom (vertices G) (G .starts) (G .ends)) × (x .tried ≡ triedOf (G .starts) (G .ends))
+      → x ≡ checkedWith (checked most G k bound room) (edges G)
+  unfolding checked
+  lists-passed h (v, c) =
+      rw (lists-early most G k bound room .passes (sym e ∙ h) (repeatsFrom (vertices G) (G .starts) (G .ends)), tried-found (vertices G) (G .starts) (G .ends), ← v, ← c) refl
 
 high-bits : {s x : ℕ} → x < s * 64 → x / 64 < s
 high-bits l = div-lt-iff-lt-mul {k = 64} (omega arith) .1 l

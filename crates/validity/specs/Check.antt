@@ -6,7 +6,7 @@ use mathlib.Core.List.{List}
 use lib.Dec.{eqb, ltb, leb}
 use lib.ListN.{length, getD}
 use Rattle.folds.specs.Fold.{pick, anyTo, firstTo}
-use Rattle.graph.specs.Graph.{Graph, vertices, identity, arcs}
+use Rattle.graph.specs.Graph.{Graph, vertices, edges, identity, arcs}
 use Rattle.topology.specs.Reach.{lowestOnCycle}
 use Rattle.validity.specs.declared.Cause.{Cause}
 use Rattle.validity.specs.declared.Cause.the-variants.{Vertices, Parts, Edges, Room, Cost, Ends, Repeat, Cycle}
@@ -57,19 +57,19 @@ cyclesFrom n starts ends = refuseAt Cycle (lowestOnCycle (arcs (identity n) star
 unfoldable pub repeatsFrom : ℕ → List ℕ → List ℕ → Verdict
 repeatsFrom n starts ends = refuseAt Repeat (firstTo (length starts) (repeats starts ends)) (length starts) (cyclesFrom n starts ends)
 
-unfoldable pub endsFrom : ℕ → List ℕ → List ℕ → List ℕ → Verdict
-endsFrom n starts ends widths = refuseAt Ends (firstTo (length starts) (badEnds n starts ends widths)) (length starts) (repeatsFrom n starts ends)
-
-unfoldable pub costsFrom : Graph → ℕ → Verdict
-costsFrom G bound = refuseAt Cost (firstTo (vertices G) (badCost (G .costs) bound)) (vertices G) (endsFrom (vertices G) (G .starts) (G .ends) (G .widths))
-
--- all of them; `room` is the verdict of check 4, which the caller knows: it lends the tables
-unfoldable pub checked : ℕ → Graph → ℕ → ℕ → Bool → Verdict
-checked most G k bound room =
+-- 1 to 6, or what is found next; `room` is the verdict of check 4, which the caller knows: it lends the tables
+unfoldable pub listsFrom : ℕ → Graph → ℕ → ℕ → Bool → Verdict → Verdict
+listsFrom most G k bound room next =
     refuseIf (badVertices most (vertices G)) Vertices
     (refuseIf (badParts k (vertices G)) Parts
     (refuseIf (badEdges (length (G .starts)) (length (G .ends)) (length (G .widths))) Edges
-    (refuseIf (not room) Room (costsFrom G bound))))
+    (refuseIf (not room) Room
+    (refuseAt Cost (firstTo (vertices G) (badCost (G .costs) bound)) (vertices G)
+    (refuseAt Ends (firstTo (edges G) (badEnds (vertices G) (G .starts) (G .ends) (G .widths))) (edges G) next)))))
+
+-- all of them
+unfoldable pub checked : ℕ → Graph → ℕ → ℕ → Bool → Verdict
+checked most G k bound room = listsFrom most G k bound room (repeatsFrom (vertices G) (G .starts) (G .ends))
 
 -- document 01: a kit is sound, and its lists accepted, if the call passes 1 to 8
 abbrev pub Valid : Graph → ℕ → ℕ → Type 0

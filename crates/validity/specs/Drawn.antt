@@ -16,14 +16,18 @@ unfoldable pub triedBy : Verdict → ℕ → ℕ
 triedBy Passed m = m
 triedBy (Refused cause place) m = pick (eqb (numberOf cause) 7) (place + 1) (pick (eqb (numberOf cause) 8) m 0)
 
+-- a verdict with that count
+abbrev pub checkedWith : Verdict → ℕ → Checked
+checkedWith v m = record { verdict = v; tried = triedBy v m }
+
 -- nothing is lent to write to, so that there is no check 4
 abbrev pub drawnOf : Graph → ℕ → ℕ → Verdict
 drawnOf G k bound = checked mostVertices G k bound true
 
+-- what the call answers
+abbrev pub checkOf : Graph → ℕ → ℕ → Checked
+checkOf G k bound = checkedWith (drawnOf G k bound) (edges G)
+
 -- the number; the place, 0 with number 0; the wires tried
 abbrev pub answerOf : Checked → Answer
 answerOf c = record { number = told (c .verdict) [] .number; values = ifPassed (c .verdict) 0 (λ cause place. place) ∷ c .tried ∷ [] }
-
--- what the call answers
-abbrev pub checkOf : Graph → ℕ → ℕ → Checked
-checkOf G k bound = record { verdict = drawnOf G k bound; tried = triedBy (drawnOf G k bound) (edges G) }

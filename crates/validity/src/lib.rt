@@ -7,11 +7,13 @@ ghost use lib.Dec.{eqb, leb};
 ghost use Rattle.folds.specs.Fold.{when, countTo, firstTo};
 ghost use Rattle.graph.specs.Graph.{graphOf};
 ghost use Rattle.validity.specs.Cause.{numberOf};
-ghost use Rattle.validity.specs.Repeat.{Found};
+ghost use Rattle.validity.specs.Repeat.{Found, triedOf};
 ghost use Rattle.validity.specs.Words.{WordsRoom, Next, Tried};
-ghost use Rattle.validity.specs.Drawn.{triedBy, checkOf};
+ghost use Rattle.validity.specs.Drawn.{checkedWith, checkOf};
+ghost use Rattle.validity.specs.declared.Cause.the-variants.{Repeat, Cycle};
+ghost use Rattle.validity.specs.declared.Verdict.the-variants.{Passed, Refused};
 ghost use Rattle.validity.specs.Contracts.{Fits, OrderLeft};
-ghost use Rattle.validity.specs.Check.{badVertices, badParts, badEdges, badCost, badEnds, repeats, repeatsFrom, costsFrom, checked};
+ghost use Rattle.validity.specs.Check.{refuseAt, badVertices, badParts, badEdges, badCost, badEnds, repeats, repeatsFrom, listsFrom, checked};
 
 // In the order of document 01's numbers.
 pub enum Cause {
@@ -264,8 +266,72 @@ pub fn find_repeat(n: usize, starts: &[u16], ends: &[u16]) -> Repeated
     first_repeat(starts, ends, 8, &mut seen)
 }
 
-// Checks 7 and 8.
-fn check_repeats(
+// Checks 1 to 6: at most `most` vertices; `room` is the caller's verdict of check 4.
+fn check_lists(
+    most: usize,
+    costs: &[u16],
+    starts: &[u16],
+    ends: &[u16],
+    widths: &[u16],
+    k: usize,
+    bound: u32,
+    room: bool,
+) -> Verdict
+    requires { ⌜ most ≤ 512 ⌝ }
+    ensures { λ r. ⌜ r ≡ listsFrom most (graphOf (now (costs .entry)) (now (starts .entry)) (now (ends .entry)) (now (widths .entry))) k bound room Passed ⌝ }
+    ensures { λ r. ⌜ (r ≡ Passed → Fits (length (now (costs .entry))) (now (starts .entry)) (now (ends .entry))) ⌝ }
+{
+    if bad_vertices(most, costs.len()) {
+        return Verdict::Refused(Cause::Vertices, 0);
+    }
+    if bad_parts(k, costs.len()) {
+        return Verdict::Refused(Cause::Parts, 0);
+    }
+    if bad_edges(starts.len(), ends.len(), widths.len()) {
+        return Verdict::Refused(Cause::Edges, 0);
+    }
+    if !room {
+        return Verdict::Refused(Cause::Room, 0);
+    }
+    let v = bad_cost(costs, bound);
+    if v < costs.len() {
+        return Verdict::Refused(Cause::Cost, v);
+    }
+    let j = bad_end(costs.len(), starts, ends, widths);
+    if j < starts.len() {
+        return Verdict::Refused(Cause::Ends, j);
+    }
+    Verdict::Passed
+}
+
+// A refusal by check 7.
+fn refuse_repeat(found: Repeated) -> Checked
+    ensures { λ r. ⌜ (r .verdict ≡ Refused Repeat (found .place)) × (r .tried ≡ found .tried) ⌝ }
+{
+    Checked {
+        verdict: Verdict::Refused(Cause::Repeat, found.place),
+        tried: found.tried,
+    }
+}
+
+// Check 8, from the lowest vertex on a cycle, after `tried` edges.
+fn check_cycle(v: usize, n: usize, tried: usize) -> Checked
+    ensures { λ r. ⌜ (r .verdict ≡ refuseAt Cycle v n Passed) × (r .tried ≡ tried) ⌝ }
+{
+    if v < n {
+        return Checked {
+            verdict: Verdict::Refused(Cause::Cycle, v),
+            tried: tried,
+        };
+    }
+    Checked {
+        verdict: Verdict::Passed,
+        tried: tried,
+    }
+}
+
+// Checks 7 and 8, the order left.
+fn check_order(
     n: usize,
     starts: &[u16],
     ends: &[u16],
@@ -276,68 +342,31 @@ fn check_repeats(
 ) -> Checked
     requires { ⌜ Fits n (now starts) (now ends) ⌝ }
     requires { ⌜ (length (now order) ≡ 512) × (length (now next) ≡ 1024) ⌝ }
-    ensures { λ r. ⌜ r .verdict ≡ repeatsFrom n (now (starts .entry)) (now (ends .entry)) ⌝ }
-    ensures { λ r. ⌜ r .tried ≡ triedBy (r .verdict) (length (now (starts .entry))) ⌝ }
+    ensures { λ r. ⌜ (r .verdict ≡ repeatsFrom n (now (starts .entry)) (now (ends .entry))) × (r .tried ≡ triedOf (now (starts .entry)) (now (ends .entry))) ⌝ }
     ensures { λ r. ⌜ OrderLeft (r .verdict) n (now (starts .entry)) (now (ends .entry)) (now (order .entry)) (now (order .exit)) (now (levels .exit)) (now (head .exit)) (now (next .exit)) ⌝ }
 {
     let found = find_repeat(n, starts, ends);
-    let j = found.place;
-    if j < starts.len() {
-        return Checked {
-            verdict: Verdict::Refused(Cause::Repeat, j),
-            tried: found.tried,
-        };
+    if found.place < starts.len() {
+        return refuse_repeat(found);
     }
     let v = ordering::lowest_on_cycle(starts, ends, n, order, levels, head, next);
-    if v < n {
-        return Checked {
-            verdict: Verdict::Refused(Cause::Cycle, v),
-            tried: found.tried,
-        };
-    }
-    Checked {
-        verdict: Verdict::Passed,
-        tried: found.tried,
-    }
+    check_cycle(v, n, found.tried)
 }
 
-// Checks 5 to 8.
-fn check_costs(
-    costs: &[u16],
-    starts: &[u16],
-    ends: &[u16],
-    widths: &[u16],
-    bound: u32,
-    order: &mut [u16; 512],
-    levels: &mut [u16; 512],
-    head: &mut [u16; 513],
-    next: &mut [u16; 1024],
-) -> Checked
-    requires { ⌜ (length (now costs) ≤ 512) × (length (now starts) ≤ 1024) ⌝ }
-    requires { ⌜ (length (now ends) ≡ length (now starts)) × (length (now widths) ≡ length (now starts)) × (length (now order) ≡ 512) × (length (now next) ≡ 1024) ⌝ }
-    ensures { λ r. ⌜ r .verdict ≡ costsFrom (graphOf (now (costs .entry)) (now (starts .entry)) (now (ends .entry)) (now (widths .entry))) bound ⌝ }
-    ensures { λ r. ⌜ r .tried ≡ triedBy (r .verdict) (length (now (starts .entry))) ⌝ }
-    ensures { λ r. ⌜ OrderLeft (r .verdict) (length (now (costs .entry))) (now (starts .entry)) (now (ends .entry)) (now (order .entry)) (now (order .exit)) (now (levels .exit)) (now (head .exit)) (now (next .exit)) ⌝ }
+// Checks 7 and 8.
+fn check_edges(n: usize, starts: &[u16], ends: &[u16]) -> Checked
+    requires { ⌜ Fits n (now starts) (now ends) ⌝ }
+    ensures { λ r. ⌜ (r .verdict ≡ repeatsFrom n (now (starts .entry)) (now (ends .entry))) × (r .tried ≡ triedOf (now (starts .entry)) (now (ends .entry))) ⌝ }
 {
-    let v = bad_cost(costs, bound);
-    if v < costs.len() {
-        return Checked {
-            verdict: Verdict::Refused(Cause::Cost, v),
-            tried: 0,
-        };
+    let found = find_repeat(n, starts, ends);
+    if found.place < starts.len() {
+        return refuse_repeat(found);
     }
-    let j = bad_end(costs.len(), starts, ends, widths);
-    if j < starts.len() {
-        return Checked {
-            verdict: Verdict::Refused(Cause::Ends, j),
-            tried: 0,
-        };
-    }
-    check_repeats(costs.len(), starts, ends, order, levels, head, next)
+    check_cycle(ordering::find_cycle(starts, ends, n), n, found.tried)
 }
 
-// Checks 1 to 8: at most `most` vertices; `room` is the caller's verdict of check 4. Where they pass, the topological order
-// of the vertices is left in the front of `order`, their levels in `levels`, and the links of the edges from each in `head` and `next`.
+// Checks 1 to 8. Where they pass, the topological order of the vertices is left in the front of `order`, their levels in `levels`,
+// and the links of the edges from each in `head` and `next`.
 pub fn check(
     most: usize,
     costs: &[u16],
@@ -353,45 +382,41 @@ pub fn check(
     next: &mut [u16; 1024],
 ) -> Checked
     requires { ⌜ (most ≤ 512) × (length (now order) ≡ 512) × (length (now next) ≡ 1024) ⌝ }
-    ensures { λ r. ⌜ r .verdict ≡ checked most (graphOf (now (costs .entry)) (now (starts .entry)) (now (ends .entry)) (now (widths .entry))) k bound room ⌝ }
-    ensures { λ r. ⌜ r .tried ≡ triedBy (r .verdict) (length (now (starts .entry))) ⌝ }
+    ensures { λ r. ⌜ r ≡ checkedWith (checked most (graphOf (now (costs .entry)) (now (starts .entry)) (now (ends .entry)) (now (widths .entry))) k bound room) (length (now (starts .entry))) ⌝ }
     ensures { λ r. ⌜ OrderLeft (r .verdict) (length (now (costs .entry))) (now (starts .entry)) (now (ends .entry)) (now (order .entry)) (now (order .exit)) (now (levels .exit)) (now (head .exit)) (now (next .exit)) ⌝ }
 {
-    if bad_vertices(most, costs.len()) {
+    let lists = check_lists(most, costs, starts, ends, widths, k, bound, room);
+    if let Verdict::Refused(cause, place) = lists {
         return Checked {
-            verdict: Verdict::Refused(Cause::Vertices, 0),
+            verdict: Verdict::Refused(cause, place),
             tried: 0,
         };
     }
-    if bad_parts(k, costs.len()) {
+    check_order(costs.len(), starts, ends, order, levels, head, next)
+}
+
+// Checks 1 to 8 for callers that want nothing of the order.
+pub fn check_bare(
+    most: usize,
+    costs: &[u16],
+    starts: &[u16],
+    ends: &[u16],
+    widths: &[u16],
+    k: usize,
+    bound: u32,
+    room: bool,
+) -> Checked
+    requires { ⌜ most ≤ 512 ⌝ }
+    ensures { λ r. ⌜ r ≡ checkedWith (checked most (graphOf (now (costs .entry)) (now (starts .entry)) (now (ends .entry)) (now (widths .entry))) k bound room) (length (now (starts .entry))) ⌝ }
+{
+    let lists = check_lists(most, costs, starts, ends, widths, k, bound, room);
+    if let Verdict::Refused(cause, place) = lists {
         return Checked {
-            verdict: Verdict::Refused(Cause::Parts, 0),
+            verdict: Verdict::Refused(cause, place),
             tried: 0,
         };
     }
-    if bad_edges(starts.len(), ends.len(), widths.len()) {
-        return Checked {
-            verdict: Verdict::Refused(Cause::Edges, 0),
-            tried: 0,
-        };
-    }
-    if !room {
-        return Checked {
-            verdict: Verdict::Refused(Cause::Room, 0),
-            tried: 0,
-        };
-    }
-    check_costs(
-        costs,
-        starts,
-        ends,
-        widths,
-        bound,
-        order,
-        levels,
-        head,
-        next,
-    )
+    check_edges(costs.len(), starts, ends)
 }
 
 // Document 02, b: the check of a kit that is being drawn. Nothing is lent to write to, so that there is no check 4.
@@ -405,22 +430,5 @@ pub fn check_kit(
 ) -> Checked
     ensures { λ r. ⌜ r ≡ checkOf (graphOf (now (costs .entry)) (now (starts .entry)) (now (ends .entry)) (now (widths .entry))) k bound ⌝ }
 {
-    let mut order = [0u16; 512];
-    let mut levels = [0u16; 512];
-    let mut head = [0u16; 513];
-    let mut next = [0u16; 1024];
-    check(
-        512,
-        costs,
-        starts,
-        ends,
-        widths,
-        k,
-        bound,
-        true,
-        &mut order,
-        &mut levels,
-        &mut head,
-        &mut next,
-    )
+    check_bare(512, costs, starts, ends, widths, k, bound, true)
 }

@@ -28,14 +28,15 @@ split-within-spec =
     (λ c. search needs)
     (λ c. let t = c .before .before .before in
     let s = start t in
-    let w = refused-first _ (s .pre) _ _ _ (s .args .table .now) (s .args .rows .now) _ _ (room t .enough .ensures) (t .check .ensures .0) (c .before .verdict .given .1) in (w .0, (w .1, w .2)))
+    let w = refused-first _ (s .pre) _ _ _ (s .args .table .now) (s .args .rows .now) _ _ (room t .enough .ensures) (ap (λ r. r .verdict) (t .check .ensures .0)) (c .before .verdict .given .1) in (w .0, (w .1, w .2)))
     (λ c. search needs)
     (λ c κs. let e = c .before .before .before .before .before .before in
     let t = tested e in
     let s = start t in
-    let v = t .check .ensures in
+    let v = ap (λ r. r .verdict) (t .check .ensures .0) in
+    let o = t .check .ensures .1 in
     let p = e .enum-told .given .1 in
-    (sound _ (s .pre) _ _ _ (s .args .table .now) (s .args .rows .now) _ _ (room t .enough .ensures) (v .0) p, (rooms _ (s .pre) _ _ _ (s .args .table .now) (s .args .rows .now) _ _ (room t .enough .ensures) (v .0) p, (ordered _ (s .pre) _ _ _ (s .args .table .now) (s .args .rows .now) _ _ (room t .enough .ensures) (v .0) p refl (v .1 .1), (v .1 .1 .linked p, v .1 .1 .levels p)))))
+    (sound _ (s .pre) _ _ _ (s .args .table .now) (s .args .rows .now) _ _ (room t .enough .ensures) v p, (rooms _ (s .pre) _ _ _ (s .args .table .now) (s .args .rows .now) _ _ (room t .enough .ensures) v p, (ordered _ (s .pre) _ _ _ (s .args .table .now) (s .args .rows .now) _ _ (room t .enough .ensures) v p refl o, (o .linked p, o .levels p)))))
     (λ c. search needs)
     (λ c. search needs)
     (λ c. search needs)
@@ -43,12 +44,12 @@ split-within-spec =
     (λ c. let d = c .before .before .before .before .before .before .before in
     let t = tested (passed d) in
     let s = start t in
-    let w = worked _ (s .pre) _ _ _ (s .args .table .now) (s .args .rows .now) _ _ (room t .enough .ensures) (t .check .ensures .0) (passed d .enum-told .given .1) (d .partition .ensures) in
+    let w = worked _ (s .pre) _ _ _ (s .args .table .now) (s .args .rows .now) _ _ (room t .enough .ensures) (ap (λ r. r .verdict) (t .check .ensures .0)) (passed d .enum-told .given .1) (d .partition .ensures) in
     (sym (ap answerBy (c .before .inner .given .1)) ∙ w .0, (w .1, w .2)))
     (λ c. search needs)
     (λ c. search needs)
     (λ c. let d = c .before .before .before .before .before .before in
     let t = tested (passed d) in
     let s = start t in
-    let w = worked _ (s .pre) _ _ _ (s .args .table .now) (s .args .rows .now) _ _ (room t .enough .ensures) (t .check .ensures .0) (passed d .enum-told .given .1) (d .partition .ensures) in
+    let w = worked _ (s .pre) _ _ _ (s .args .table .now) (s .args .rows .now) _ _ (room t .enough .ensures) (ap (λ r. r .verdict) (t .check .ensures .0)) (passed d .enum-told .given .1) (d .partition .ensures) in
     (sym (ap answerBy (c .enum-told2 .given .1)) ∙ w .0, (w .1, w .2))))

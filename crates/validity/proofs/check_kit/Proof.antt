@@ -1,5 +1,4 @@
 -- The checks below, with room.
-use Rattle.validity.proofs.Repeats.{checked-whole}
 use borrow.Author.Needs.{needs}
 use Rattle.validity.proofs.check_kit.Statement.{statement}
 use Rattle.validity.proofs.check_kit.Tie as tie
@@ -9,4 +8,4 @@ check-kit-spec =
     tie.close
     (tie.spec
     (λ c κs. search needs)
-    (λ c. let r = c .check .ensures in checked-whole _ (r .0) (r .1 .0)))
+    (λ c. c .check-bare .ensures))
