@@ -163,11 +163,34 @@ def bipartite(n, r):
     return [(u, half + (u + j) % half) for u in range(half) for j in range(each)]
 
 
+def two_hubs(n, r):
+    """Two blocks to all others. One wire is between the two: n - 1 wires each."""
+    return [(0, 1)] + [(u, v) for v in range(2, n) for u in (0, 1)]
+
+
+def hubs(n, r):
+    """Sixteen blocks of the first half, each to 63 later ones."""
+    return [(u, v) for u in range(0, n // 2, n // 32) for v in r.sample(range(u + 1, n), 63)]
+
+
+def filled(make):
+    """The shape with more wires, each to one of the next sixteen blocks, 1,024 in all."""
+    def wires(n, r):
+        made = dict.fromkeys(make(n, r))
+        while len(made) < WIRES:
+            a = r.randrange(n - 1)
+            made[(a, min(a + r.randint(1, 16), n - 1))] = None
+        return list(made)
+    return wires
+
+
 GROWING = (64, 128, 256, 512)
 SHAPES = [("chain", chain, GROWING), ("tree_out", tree_out, GROWING), ("tree_in", tree_in, GROWING),
           ("star_out", star_out, (64, 512)), ("star_in", star_in, (64, 512)), ("fan", fan, (64, 512)),
           ("hourglass", hourglass, (64, 512)), ("beads", beads, (64, 512)), ("no_wires", no_wires, (64, 512)),
-          ("bipartite", bipartite, (64, 512)), ("layered", layered, GROWING), ("random", randomly, GROWING)]
+          ("bipartite", bipartite, (64, 512)), ("layered", layered, GROWING), ("random", randomly, GROWING),
+          ("two_hubs", two_hubs, (512,)), ("chain_full", filled(chain), (512,)),
+          ("layered_full", filled(layered), (512,)), ("hubs_full", filled(hubs), (512,))]
 
 
 def drawn(make, n, shuffled):
@@ -293,8 +316,8 @@ def write_evening(folder):
 
 
 def write_refused(folder):
-    """Of 512 blocks: the last wire repeats, the wires form one loop, a loop of the last blocks alone,
-    before a chain or at both its ends, and no rung can be cut."""
+    """Of 512 blocks: the last wire repeats, or wire 1; the wires form one loop, a loop of the last blocks
+    alone, before a chain or at both its ends; no rung can be cut."""
     for shape, make, _ in SHAPES:
         for shuffled in (False, True):
             g = drawn(make, BLOCKS, shuffled)
@@ -307,11 +330,10 @@ def write_refused(folder):
             if wires:
                 g.wires = wires + wires[-1:]
                 write(folder, "repeat-%s" % name, g, 16, sum(g.costs))
-    two_hubs = Tasks()
-    two_hubs.costs = [1] * BLOCKS
-    wires = [((u, v), 1) for v in range(2, BLOCKS) for u in (0, 1)]
-    two_hubs.wires = wires + wires[-1:]
-    write(folder, "repeat-two_hubs", two_hubs, 16, BLOCKS)
+    g = drawn(randomly, BLOCKS, True)
+    wires = list(g.wires.items())[:WIRES - 1]
+    g.wires = wires[:1] + wires
+    write(folder, "repeat-at_once", g, 16, sum(g.costs))
     for shuffled in (False, True):
         name = "_shuffled" if shuffled else ""
         g = drawn(chain, BLOCKS, shuffled)

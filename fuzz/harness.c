@@ -3,7 +3,8 @@
  * An input is a kit text as it stands, or a recipe: its bytes choose a sound kit, a fault to give it, and a table. A fault
  * has one answer, number and place, and the call has to give that one. Demanded besides: entries past those named keep
  * their guards; a refusal leaves the tables; a table that the split answers passes inspection with the same cut, and no
- * single move is left in it; inspection agrees with the one below; a text that is read is the printing of what was read. */
+ * single move is left in it; inspection agrees with the one below; the check beside every split agrees with it, and tried
+ * as many wires as the loop below; a text that is read is the printing of what was read. */
 #include <stdarg.h>
 #include <stdio.h>
 #include <stdlib.h>
@@ -28,17 +29,18 @@ static uint32_t limit;
 /* Lent tables, with guards past them. */
 static uint16_t table[BLOCKS + PAD], ladder[HATCH_ROWS * BLOCKS + PAD], order[HATCH_STAGES + 1 + PAD];
 static uint16_t lists[4][WIRES + PAD];
-static size_t answer[4 + PAD];
+static size_t answer[4 + PAD], checked[HATCH_CHECK_ANSWER + PAD];
 
 /* How often each number came; what came is coverage to libFuzzer, which does not see into the archive. */
-static unsigned long returned[3][17];
+enum { SPLIT, INSPECT, READ, CHECK, CALLS };
+static unsigned long returned[CALLS][17];
 __attribute__((section("__libfuzzer_extra_counters"))) static uint8_t seen[4096];
 
 __attribute__((destructor)) static void report(void)
 {
-    const char *calls[] = {"split", "inspect", "read"};
+    const char *calls[CALLS] = {"split", "inspect", "read", "check"};
     unsigned long total[17] = {0};
-    for (int c = 0; c < 3; c++)
+    for (int c = 0; c < CALLS; c++)
         for (int i = 0; i < 17; i++) {
             total[i] += returned[c][i];
             if (returned[c][i])
@@ -54,8 +56,11 @@ static uint32_t tell(int call, uint32_t number)
     DEMAND(number <= 16);
     returned[call][number]++;
     seen[call * 17 + number] = 1;
-    if (call == 0 && number == 0) /* rounds kept, rung cut, some moves */
-        seen[64 + (answer[1] * 9 + answer[2]) * 8 + (answer[3] > 7 ? 7 : answer[3])] = 1;
+    if (call == SPLIT && number == 0) /* rounds kept, rung cut, some moves */
+        seen[128 + (answer[1] * 9 + answer[2]) * 8 + (answer[3] > 7 ? 7 : answer[3])] = 1;
+    if (call == CHECK && number == 7) /* how far the search went, by powers of two */
+        for (size_t tried = checked[1], at = 1024; tried; tried /= 2, at++)
+            seen[at] = 1;
     return number;
 }
 
@@ -172,6 +177,40 @@ static void sound(void)
 
 /* ---- the calls ---- */
 
+/* how many wires are tried as repeats of earlier ones, from the lowest up and to the first find */
+static size_t tries(void)
+{
+    size_t tried = 0;
+    for (int found = 0; tried < m && !found; tried++)
+        for (size_t e = 0; e < tried; e++)
+            found |= wires[0][e] == wires[0][tried] && wires[1][e] == wires[1][tried];
+    return tried;
+}
+
+static uint32_t check(void)
+{
+    for (size_t i = 0; i < HATCH_CHECK_ANSWER + PAD; i++)
+        checked[i] = GUARD;
+    uint32_t number = hatch_check(n ? costs : NULL, n, lent[0] ? wires[0] : NULL, lent[0], lent[1] ? wires[1] : NULL, lent[1],
+                                  lent[2] ? wires[2] : NULL, lent[2], k, limit, checked);
+    DEMAND(number <= 8 && number != 4);
+    DEMAND(number || checked[0] == 0);
+    DEMAND(checked[1] == (number == 0 || number > 6 ? tries() : 0));
+    for (size_t i = HATCH_CHECK_ANSWER; i < HATCH_CHECK_ANSWER + PAD; i++)
+        DEMAND(checked[i] == GUARD);
+    return tell(CHECK, number);
+}
+
+/* the check of a kit that was split: a 9 is sound, a 4 came past 1 to 3, and any other number and place is the same */
+static void check_beside(uint32_t number)
+{
+    uint32_t own = check();
+    if (number == 4)
+        DEMAND(own == 0 || own > 4);
+    else
+        DEMAND(own == (number == 9 ? 0 : number) && (own == 0 || checked[0] == answer[0]));
+}
+
 static uint32_t split(size_t t, size_t l)
 {
     fresh();
@@ -185,7 +224,8 @@ static uint32_t split(size_t t, size_t l)
     DEMAND(guarded(ladder, rows * n, HATCH_ROWS * BLOCKS + PAD));
     for (size_t v = 0; number == 0 && v < n; v++)
         DEMAND(table[v] < k && ladder[v] == v);
-    return tell(0, number);
+    check_beside(number);
+    return tell(SPLIT, number);
 }
 
 static uint32_t inspect(size_t t, size_t o)
@@ -200,10 +240,10 @@ static uint32_t inspect(size_t t, size_t o)
     DEMAND(number != 9 && number <= 13);
     cells(number, HATCH_INSPECT_ANSWER);
     DEMAND(guarded(order, number ? 0 : k, HATCH_STAGES + 1 + PAD) && !memcmp(before, table, sizeof before));
-    return tell(1, number);
+    return tell(INSPECT, number);
 }
 
-/* both calls refuse the kit with this number and place */
+/* split, with the check beside it, and inspection refuse the kit with this number and place */
 static void both(uint32_t number, size_t place)
 {
     DEMAND(split(n, HATCH_ROWS * n) == number && answer[0] == place);
@@ -322,6 +362,20 @@ static void wire_fault(size_t e)
     both(6, e);
 }
 
+/* the wire e once more in any place behind it, and then perhaps a wire that is not above e at the end: the lower place counts */
+static void repeat_fault(size_t e)
+{
+    size_t at = e + 1 + below(m - e), last = below(e + 1);
+    for (size_t l = 0; l < 3; l++) {
+        memmove(wires[l] + at + 1, wires[l] + at, (m - at) * sizeof **wires);
+        wires[l][at] = wires[l][e], wires[l][m + 1] = wires[l][last];
+    }
+    wires[2][at] = (uint16_t)(1 + below(65535));
+    m += m + 1 < HATCH_WIRES && one_in(2) ? 2 : 1;
+    lent[0] = lent[1] = lent[2] = m;
+    both(7, at);
+}
+
 /* the wire e turned round as one more: a loop, whose lowest block is looked for along all ways from it */
 static void loop_fault(size_t e)
 {
@@ -348,7 +402,7 @@ static void short_lent(void)
 {
     size_t which = below(4);
     if (which < 2)
-        DEMAND(split(n - (which == 0), HATCH_ROWS * n - (which == 1)) == 4 && answer[0] == 0);
+        DEMAND(split(n - (which == 0), HATCH_ROWS * n - (which == 1)) == 4 && answer[0] == 0 && check() == 0);
     else
         DEMAND(inspect(n - (which == 2), k - (which == 3)) == 4 && answer[0] == 0);
 }
@@ -361,7 +415,7 @@ static void lists_fault(void)
         DEMAND(split(HATCH_BLOCKS, HATCH_ROWS * HATCH_BLOCKS) == 1 && answer[0] == 0);
         DEMAND(inspect(HATCH_BLOCKS, k) == 1 && answer[0] == 0);
     } else if (fault == 1) {
-        k = one_in(3) ? 0 : n < HATCH_STAGES ? n + 1 : HATCH_STAGES + 1;
+        k = one_in(3) ? 0 : one_in(4) ? k + UINT32_MAX + 1 : n < HATCH_STAGES ? n + 1 : HATCH_STAGES + 1;
         both(2, 0);
     } else if (fault == 2 && m) {
         lent[below(3)]--;
@@ -377,9 +431,7 @@ static void lists_fault(void)
     } else if (fault == 5 && m) {
         wire_fault(e);
     } else if (fault == 6 && m && m < HATCH_WIRES) {
-        wires[0][m] = wires[0][e], wires[1][m] = wires[1][e], wires[2][m] = 1;
-        lent[0] = lent[1] = lent[2] = ++m;
-        both(7, m - 1);
+        repeat_fault(e);
     } else if (fault == 7 && m && m < HATCH_WIRES) {
         loop_fault(e);
     }
@@ -419,7 +471,7 @@ static uint32_t read_text(const uint8_t *from, size_t size, const size_t room[4]
     cells(number, HATCH_READ_ANSWER);
     for (size_t i = 0; i < 4; i++)
         DEMAND(guarded(lists[i], number ? 0 : answer[i ? 1 : 0], WIRES + PAD));
-    return tell(2, number);
+    return tell(READ, number);
 }
 
 static const size_t full[4] = {HATCH_BLOCKS, HATCH_WIRES, HATCH_WIRES, HATCH_WIRES};

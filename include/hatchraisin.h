@@ -1,4 +1,5 @@
-/* hatchraisin.h: the stage splitter's calls, for the player's loader and the bench.
+/* hatchraisin.h: the stage splitter's calls, for the player's loader, the editor and the
+ * bench.
  *
  * Link with target/staticlib/libhatchraisin.a (`rt staticlib hatchraisin` makes it), x86-64.
  *
@@ -19,7 +20,7 @@
  *   has the number of cells that the call names; the call writes each of them, always:
  *     0        the values said at the call
  *     1 to 16  answer[0] is the place: a block, wire, stage or line as the table says;
- *              the other cells are 0
+ *              the other cells are 0, but for hatch_check's count
  *   Entries of any table past those named at a call are never written.
  *
  * A REFUSAL LEAVES THE PREVIOUS TABLE IN PLACE. The stage table then still holds what it
@@ -45,6 +46,7 @@ enum {
     HATCH_TEXT = 65536,     /* most bytes of a kit text */
     HATCH_SPLIT_ANSWER = 4, /* cells of `answer` */
     HATCH_INSPECT_ANSWER = 1,
+    HATCH_CHECK_ANSWER = 2,
     HATCH_READ_ANSWER = 4
 };
 
@@ -105,12 +107,29 @@ uint32_t hatch_inspect(const uint16_t *costs, size_t costs_len,
                        uint16_t *order, size_t order_len,
                        size_t answer[HATCH_INSPECT_ANSWER]);
 
+/* Checks a kit that is being drawn: for the editor, on each drawn wire. It writes to
+ * nothing but `answer`.
+ *
+ * 0: the kit is sound. hatch_split then returns 0 or 9, given long enough tables.
+ * 1, 2, 3, 5 to 8: the number and place that hatch_split returns, given such tables.
+ *    4 and 9 are never returned.
+ * answer[0]: the place, 0 with 0.
+ * answer[1]: how many wires the search for a repeated wire tried, from wire 0 up and to
+ *    the first find: the place and one more with 7, all m with 8 and with 0. With 1 to 6
+ *    it was not come to, and this is 0. */
+uint32_t hatch_check(const uint16_t *costs, size_t costs_len,
+                     const uint16_t *starts, size_t starts_len,
+                     const uint16_t *ends, size_t ends_len,
+                     const uint16_t *widths, size_t widths_len,
+                     size_t k, uint32_t limit,
+                     size_t answer[HATCH_CHECK_ANSWER]);
+
 /* Reads a kit text into four lists. Lists of 512 and 1,024 entries are long enough for
  * every text.
  *
  * 0: costs[0 .. n-1] and the first m entries of starts, ends and widths are the kit's.
  *    answer: n, m, the stage count, the limit. The kit is of the form; whether it is
- *    sound is for hatch_split or hatch_inspect to say.
+ *    sound is for hatch_split, hatch_inspect or hatch_check to say.
  * 14, 15, 16, 4: the lists are untouched. */
 uint32_t hatch_read(const uint8_t *text, size_t text_len,
                     uint16_t *costs, size_t costs_len,

@@ -1,5 +1,5 @@
-//! Times the split of one or two static libraries and of the reference on the same kits, in turns.
-//! Usage: bench DIR TURNS [two]; each kit's times go to DIR/../times.txt
+//! Times the split and the check of one or two static libraries and of the reference on the same kits, in turns.
+//! Usage: bench DIR TURNS CALL...; the calls are named below, and each kit's times go to DIR/../times.txt
 
 use reference::read_kit;
 use std::collections::BTreeMap;
@@ -27,9 +27,25 @@ type Split = unsafe extern "C" fn(
     answer_len: usize,
 ) -> u32; // answer_len is for an older archive as the second: a call without it does not look there
 
+type Check = unsafe extern "C" fn(
+    costs: *const u16,
+    costs_len: usize,
+    starts: *const u16,
+    starts_len: usize,
+    ends: *const u16,
+    ends_len: usize,
+    widths: *const u16,
+    widths_len: usize,
+    k: usize,
+    limit: u32,
+    answer: *mut usize,
+) -> u32;
+
 extern "C" {
     fn first_split();
     fn second_split();
+    fn first_check();
+    fn second_check();
     fn pthread_getattr_np(thread: usize, attr: *mut [u64; 8]) -> i32;
     fn pthread_attr_getstack(attr: *const [u64; 8], base: *mut *mut u8, size: *mut usize) -> i32;
     fn pthread_attr_destroy(attr: *mut [u64; 8]) -> i32;
@@ -45,7 +61,7 @@ struct Lists {
     limit: u32,
 }
 
-/// What a split answers and leaves.
+/// What a split answers and leaves; a check has two cells and leaves the rest.
 #[derive(PartialEq)]
 struct Outcome {
     number: u32,
@@ -60,8 +76,8 @@ impl Outcome {
     }
 }
 
-/// A call of the archive.
-fn archive(split: unsafe extern "C" fn(), l: &Lists, o: &mut Outcome) {
+/// The split of an archive.
+fn split_by(split: unsafe extern "C" fn(), l: &Lists, o: &mut Outcome) {
     o.number = unsafe {
         std::mem::transmute::<unsafe extern "C" fn(), Split>(split)(
             l.costs.as_ptr(),
@@ -84,12 +100,23 @@ fn archive(split: unsafe extern "C" fn(), l: &Lists, o: &mut Outcome) {
     };
 }
 
-fn first(l: &Lists, o: &mut Outcome) {
-    archive(first_split, l, o)
-}
-
-fn second(l: &Lists, o: &mut Outcome) {
-    archive(second_split, l, o)
+/// The check of an archive.
+fn check_by(check: unsafe extern "C" fn(), l: &Lists, o: &mut Outcome) {
+    o.number = unsafe {
+        std::mem::transmute::<unsafe extern "C" fn(), Check>(check)(
+            l.costs.as_ptr(),
+            l.costs.len(),
+            l.starts.as_ptr(),
+            l.starts.len(),
+            l.ends.as_ptr(),
+            l.ends.len(),
+            l.widths.as_ptr(),
+            l.widths.len(),
+            l.k,
+            l.limit,
+            o.answer.as_mut_ptr(),
+        )
+    };
 }
 
 fn reference(l: &Lists, o: &mut Outcome) {
@@ -113,6 +140,12 @@ fn reference(l: &Lists, o: &mut Outcome) {
             o.answer = [r.place as usize, 0, 0, 0];
         }
     }
+}
+
+fn reference_check(l: &Lists, o: &mut Outcome) {
+    let check = reference::check_kit(&l.costs, &l.starts, &l.ends, &l.widths, l.k as u32, l.limit);
+    (o.number, o.answer[0]) = check.result.map_or_else(|r| (r.number, r.place as usize), |()| (0, 0));
+    o.answer[1] = check.tried;
 }
 
 /// The passes of a split over all rungs, each rung's last one too, which moves nothing; 0 if it is refused.
@@ -146,11 +179,28 @@ fn load(path: &Path) -> Lists {
     }
 }
 
-type Call = fn(&Lists, &mut Outcome);
+type Run = fn(&Lists, &mut Outcome);
 
-fn timed(f: Call, l: &Lists, o: &mut Outcome) -> f64 {
+#[derive(Clone, Copy)]
+struct Call {
+    name: &'static str,
+    run: Run,
+    /// A check, not a split.
+    checks: bool,
+}
+
+const CALLS: [Call; 6] = [
+    Call { name: "library", run: |l, o| split_by(first_split, l, o), checks: false },
+    Call { name: "reference", run: reference, checks: false },
+    Call { name: "second", run: |l, o| split_by(second_split, l, o), checks: false },
+    Call { name: "library_check", run: |l, o| check_by(first_check, l, o), checks: true },
+    Call { name: "reference_check", run: reference_check, checks: true },
+    Call { name: "second_check", run: |l, o| check_by(second_check, l, o), checks: true },
+];
+
+fn timed(run: Run, l: &Lists, o: &mut Outcome) -> f64 {
     let start = Instant::now();
-    f(black_box(l), black_box(o));
+    run(black_box(l), black_box(o));
     start.elapsed().as_secs_f64() * 1e6
 }
 
@@ -166,17 +216,28 @@ fn medians(calls: &[Call], l: &Lists, turns: usize) -> Vec<f64> {
     for turn in 0..turns {
         for i in 0..calls.len() {
             let c = (turn + i) % calls.len();
-            times[c].push(timed(calls[c], l, &mut outcome));
+            times[c].push(timed(calls[c].run, l, &mut outcome));
         }
     }
     times.iter_mut().map(|t| median(t)).collect()
 }
 
-/// Bytes of stack that a call of the library's split writes below its caller.
-fn stack_of(l: &Lists) -> usize {
+/// Whether the splits, or the checks, give different outcomes.
+fn differ(calls: &[Call], l: &Lists, checks: bool) -> bool {
+    let outcome = |call: &Call| {
+        let mut o = Outcome::new();
+        (call.run)(l, &mut o);
+        o
+    };
+    let outcomes: Vec<Outcome> = calls.iter().filter(|c| c.checks == checks).map(outcome).collect();
+    outcomes.iter().any(|o| *o != outcomes[0])
+}
+
+/// Bytes of stack that a call writes below its caller.
+fn stack_of(run: Run, l: &Lists) -> usize {
     const MARK: u8 = 0xC7;
     std::thread::scope(|scope| {
-        let run = move || unsafe {
+        let painted = move || unsafe {
             let mut attr = [0u64; 8];
             let (mut base, mut size) = (std::ptr::null_mut(), 0);
             pthread_getattr_np(pthread_self(), &mut attr);
@@ -190,14 +251,14 @@ fn stack_of(l: &Lists) -> usize {
                 (p as *mut u8).write_volatile(MARK);
                 p += 1;
             }
-            first(l, &mut outcome);
+            run(l, &mut outcome);
             p = bottom;
             while p < top && (p as *const u8).read_volatile() == MARK {
                 p += 1;
             }
             top + 4096 - p
         };
-        std::thread::Builder::new().stack_size(1 << 20).spawn_scoped(scope, run).unwrap().join().unwrap()
+        std::thread::Builder::new().stack_size(1 << 20).spawn_scoped(scope, painted).unwrap().join().unwrap()
     })
 }
 
@@ -227,98 +288,161 @@ impl Ratios {
 /// One kit's figures.
 struct Row {
     name: String,
+    blocks: usize,
+    wires: usize,
     refused: bool,
     passes: u32,
+    /// The bytes of stack and the microseconds of each call.
+    stacks: Vec<usize>,
     times: Vec<f64>,
 }
 
 impl Row {
+    fn measure(name: String, l: &Lists, calls: &[Call], turns: usize) -> Row {
+        let mut o = Outcome::new();
+        reference(l, &mut o);
+        Row {
+            name,
+            blocks: l.costs.len(),
+            wires: l.starts.len(),
+            refused: o.number != 0,
+            passes: passes_of(l),
+            stacks: calls.iter().map(|call| stack_of(call.run, l)).collect(),
+            times: medians(calls, l, turns),
+        }
+    }
+
     fn shape(&self) -> &str {
         self.name.split('-').next().unwrap()
     }
-}
 
-/// A line a shape and one for all: kits, worst ratio and mean of call `over` to call `under`.
-fn print_ratios(title: &str, rows: &[Row], over: usize, under: usize) {
-    let mut shapes: BTreeMap<&str, Ratios> = BTreeMap::new();
-    let (mut splits, mut refusals) = (Ratios::default(), Ratios::default());
-    for row in rows {
-        let ratio = row.times[over] / row.times[under];
-        shapes.entry(row.shape()).or_default().add(ratio, &row.name);
-        let all = if row.refused { &mut refusals } else { &mut splits };
-        all.add(ratio, &row.name);
+    /// 512 blocks and 1,024 wires.
+    fn full(&self) -> bool {
+        (self.blocks, self.wires) == (512, 1_024)
     }
-    println!("\n{title}\n{:<20} {:>4} {:>6} {:>6}  worst kit", "shape", "kits", "worst", "mean");
-    let totals = [("ALL REFUSED", &refusals), ("ALL SPLIT", &splits)];
-    for (shape, r) in shapes.iter().map(|(s, r)| (*s, r)).chain(totals) {
-        println!("{shape:<20} {:>4} {:>6.2} {:>6.2}  {}", r.kits, r.worst, r.mean(), r.name);
+
+    fn two_hubs(&self) -> bool {
+        self.name.contains("two_hubs")
     }
 }
 
-fn slowest(rows: &[Row], refused: bool, call: usize) -> String {
-    let of = rows.iter().filter(|r| r.refused == refused);
-    let row = of.max_by(|a, b| a.times[call].total_cmp(&b.times[call]));
-    row.map_or("none".to_string(), |row| format!("{:.1} ({})", row.times[call], row.name))
+/// All rows, and which call is in which column.
+struct Figures {
+    calls: Vec<Call>,
+    rows: Vec<Row>,
+}
+
+impl Figures {
+    fn column(&self, name: &str) -> Option<usize> {
+        self.calls.iter().position(|call| call.name == name)
+    }
+
+    /// A line a shape and one for all: kits, worst ratio and mean of one call to another, if both were timed.
+    fn print_ratios(&self, over: &str, under: &str) {
+        let (Some(over_at), Some(under_at)) = (self.column(over), self.column(under)) else { return };
+        let mut shapes: BTreeMap<&str, Ratios> = BTreeMap::new();
+        let (mut splits, mut refusals) = (Ratios::default(), Ratios::default());
+        for row in &self.rows {
+            let ratio = row.times[over_at] / row.times[under_at];
+            shapes.entry(row.shape()).or_default().add(ratio, &row.name);
+            let all = if row.refused { &mut refusals } else { &mut splits };
+            all.add(ratio, &row.name);
+        }
+        println!("\n{over} / {under}\n{:<20} {:>4} {:>6} {:>6}  worst kit", "shape", "kits", "worst", "mean");
+        let totals = [("ALL REFUSED", &refusals), ("ALL SPLIT", &splits)];
+        for (shape, r) in shapes.iter().map(|(s, r)| (*s, r)).chain(totals) {
+            println!("{shape:<20} {:>4} {:>6.2} {:>6.2}  {}", r.kits, r.worst, r.mean(), r.name);
+        }
+    }
+
+    /// The library's check over its split of the same kit, for some of the kits, beside what is asked for.
+    fn print_check(&self, kits: &str, asked: &str, of: impl Fn(&Row) -> bool) {
+        let (Some(check), Some(split)) = (self.column("library_check"), self.column("library")) else {
+            return;
+        };
+        let mut r = Ratios::default();
+        for row in self.rows.iter().filter(|row| of(row)) {
+            r.add(row.times[check] / row.times[split], &row.name);
+        }
+        let Ratios { kits: count, worst, name, .. } = &r;
+        println!(
+            "library_check / library, {kits}: {count} kits, worst {worst:.3} ({name}), mean {:.3}{asked}",
+            r.mean()
+        );
+    }
+
+    fn slowest(&self, refused: bool, call: usize) -> String {
+        let of = self.rows.iter().filter(|r| r.refused == refused);
+        let row = of.max_by(|a, b| a.times[call].total_cmp(&b.times[call]));
+        row.map_or("none".to_string(), |row| format!("{:.1} ({})", row.times[call], row.name))
+    }
+
+    /// For each call its slowest kits and the most stack.
+    fn print_calls(&self) {
+        for (at, call) in self.calls.iter().enumerate() {
+            let (split, refused) = (self.slowest(false, at), self.slowest(true, at));
+            let stack = self.rows.iter().map(|row| row.stacks[at]).max().unwrap_or(0);
+            println!(
+                "{}, microseconds: slowest of the kits that are split {split}, of those refused {refused}; most stack {stack} bytes",
+                call.name
+            );
+        }
+        if let Some(row) = self.rows.iter().max_by_key(|row| row.passes) {
+            println!("most passes of a split: {} ({})", row.passes, row.name);
+        }
+    }
+
+    /// A line a kit.
+    fn text(&self, turns: usize) -> String {
+        let names: Vec<&str> = self.calls.iter().map(|call| call.name).collect();
+        let mut text = format!(
+            "median microseconds of {turns} turns: {}; library / reference; passes\n",
+            names.join(", ")
+        );
+        for row in &self.rows {
+            let times: Vec<String> = row.times.iter().map(|t| format!("{t:9.1}")).collect();
+            let ratio = row.times[0] / row.times[1];
+            writeln!(text, "{:<40} {} {ratio:6.2} {:5}", row.name, times.join(" "), row.passes).unwrap();
+        }
+        text
+    }
 }
 
 fn main() {
     let args: Vec<String> = std::env::args().collect();
     let turns: usize = args[2].parse().expect("a number of turns");
-    let two = args.get(3).is_some_and(|a| a == "two");
-    let (names, calls): (&[&str], &[Call]) = match two {
-        true => (&["library", "reference", "second"], &[first, reference, second]),
-        false => (&["library", "reference"], &[first, reference]),
-    };
+    let calls: Vec<Call> =
+        CALLS.into_iter().filter(|call| args[3..].iter().any(|a| a == call.name)).collect();
     let mut files: Vec<_> =
         std::fs::read_dir(&args[1]).expect("a folder").map(|f| f.unwrap().path()).collect();
     files.sort();
-    let (mut rows, mut differ, mut deepest) = (Vec::new(), 0, 0);
+    let (mut figures, mut different) = (Figures { calls: calls.clone(), rows: Vec::new() }, 0);
     for file in &files {
         let (l, name) = (load(file), file.file_stem().unwrap().to_string_lossy().into_owned());
-        let outcomes: Vec<Outcome> = calls
-            .iter()
-            .map(|call| {
-                let mut o = Outcome::new();
-                call(&l, &mut o);
-                o
-            })
-            .collect();
-        if outcomes.iter().any(|o| *o != outcomes[0]) {
-            differ += 1;
+        if differ(&calls, &l, false) || differ(&calls, &l, true) {
+            different += 1;
             println!("{name}: the answers differ");
         }
-        deepest = deepest.max(stack_of(&l));
-        let (refused, passes) = (outcomes[0].number != 0, passes_of(&l));
-        rows.push(Row { name, refused, passes, times: medians(calls, &l, turns) });
-    }
-
-    let mut text =
-        format!("median microseconds of {turns} turns: {}; library / reference; passes\n", names.join(", "));
-    for row in &rows {
-        let times: Vec<String> = row.times.iter().map(|t| format!("{t:9.1}")).collect();
-        let ratio = row.times[0] / row.times[1];
-        writeln!(text, "{:<40} {} {ratio:6.2} {:5}", row.name, times.join(" "), row.passes).unwrap();
+        figures.rows.push(Row::measure(name, &l, &calls, turns));
     }
     let path = Path::new(&args[1]).with_file_name("times.txt");
-    std::fs::write(&path, text).expect("a file for the times");
+    std::fs::write(&path, figures.text(turns)).expect("a file for the times");
 
     println!("medians of {turns} turns, one of each call a turn; each kit's times are in {}", path.display());
-    print_ratios("library / reference", &rows, 0, 1);
-    if two {
-        print_ratios("second / reference", &rows, 2, 1);
-        print_ratios("library / second", &rows, 0, 2);
+    for (over, under) in [("library", "reference"), ("second", "reference"), ("library", "second")] {
+        figures.print_ratios(over, under);
+        figures.print_ratios(&format!("{over}_check"), &format!("{under}_check"));
     }
     println!();
-    for (call, name) in names.iter().enumerate() {
-        println!(
-            "{name}, microseconds: slowest split {}, slowest refused {}",
-            slowest(&rows, false, call),
-            slowest(&rows, true, call)
-        );
-    }
-    if let Some(row) = rows.iter().max_by_key(|row| row.passes) {
-        println!("most passes of a split: {} ({})", row.passes, row.name);
-    }
-    println!("most stack {deepest} bytes, {differ} answers differ");
-    std::process::exit((differ > 0) as i32);
+    figures.print_check("512 blocks and 1,024 wires, split", "; asked for is at most 0.10", |row| {
+        row.full() && !row.refused
+    });
+    figures.print_check("two hubs of 511 wires each, split", "; asked for is at most 1.00", |row| {
+        row.two_hubs() && !row.refused
+    });
+    figures
+        .print_check("two hubs, the last wire repeated", "", |row| row.two_hubs() && row.shape() == "repeat");
+    figures.print_calls();
+    println!("{different} answers differ");
+    std::process::exit((different > 0) as i32);
 }

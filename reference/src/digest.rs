@@ -1,8 +1,8 @@
-//! A fixed sequence of kits from a very simple generator, and a digest of their splits.
+//! A fixed sequence of kits from a very simple generator, and a digest of their splits and checks.
 //! The README states the generator, so that another program can mirror it.
 
 use crate::generate::Instance;
-use crate::split;
+use crate::{check_kit, split};
 
 pub const KITS: u32 = 512;
 pub const KITS_A_LINE: u32 = 32;
@@ -99,7 +99,7 @@ pub fn lines_of(values: impl Fn(&Lent) -> Vec<u64>) -> String {
 }
 
 /// The answer (0, cut, rounds, rung, moves) or the refusal (number, place), then both
-/// tables as they stand afterwards, untouched entries being 65,535.
+/// tables as they stand afterwards, untouched entries being 65,535, then the check's values.
 fn values(lent: &Lent) -> Vec<u64> {
     let kit = &lent.kit;
     let n = kit.weights.len();
@@ -114,5 +114,8 @@ fn values(lent: &Lent) -> Vec<u64> {
         Err(r) => vec![r.number.into(), r.place.into()],
     };
     values.extend(parts.iter().chain(&ladder).map(|&entry| entry as u64));
+    let check = check_kit(&costs, &starts, &ends, &widths, kit.k, kit.bound);
+    let (number, place) = check.result.map_or_else(|r| (r.number, r.place), |()| (0, 0));
+    values.extend([number.into(), place.into(), check.tried as u64]);
     values
 }

@@ -68,22 +68,25 @@ fn starts_of(count: usize, keys: impl Iterator<Item = usize>) -> Vec<u32> {
     first
 }
 
-/// Stable counting sort: the items with key v are `items[first[v]..first[v + 1]]`.
-pub fn bucket(count: usize, keys: impl Iterator<Item = usize> + Clone) -> (Vec<u32>, Vec<u16>) {
-    let mut first = starts_of(count, keys.clone());
-    let mut items = vec![0; first[count + 1] as usize];
-    for (i, key) in keys.enumerate() {
-        items[first[key + 1] as usize] = i as u16;
+/// Stable counting sort of items by their keys: those with key v are `sorted[first[v]..first[v + 1]]`.
+pub fn bucket<T: Copy + Default>(
+    count: usize,
+    items: impl Iterator<Item = (usize, T)> + Clone,
+) -> (Vec<u32>, Vec<T>) {
+    let mut first = starts_of(count, items.clone().map(|(key, _)| key));
+    let mut sorted = vec![T::default(); first[count + 1] as usize];
+    for (key, item) in items {
+        sorted[first[key + 1] as usize] = item;
         first[key + 1] += 1;
     }
-    (first, items)
+    (first, sorted)
 }
 
 impl Graph {
-    pub fn new(weights: Vec<u32>, edges: &[Edge]) -> Graph {
-        let (first, items) = bucket(weights.len(), edges.iter().map(|e| e.from as usize));
-        let link = |&i: &u16| Link { vertex: edges[i as usize].to, width: edges[i as usize].width };
-        Graph::grouped(weights, first, items.iter().map(link).collect())
+    pub fn new(weights: Vec<u32>, edges: impl Iterator<Item = Edge> + Clone) -> Graph {
+        let link = |e: Edge| (e.from as usize, Link { vertex: e.to, width: e.width });
+        let (first, links) = bucket(weights.len(), edges.map(link));
+        Graph::grouped(weights, first, links)
     }
 
     /// The successors of v are the links from `first[v]` to `first[v + 1]`.
@@ -164,7 +167,8 @@ impl Graph {
 
     /// The graph of the clusters; parallel edges become one with the summed width.
     pub fn contract(&self, cluster: &[u16], count: usize) -> Graph {
-        let (begins, members) = bucket(count, cluster.iter().map(|&c| c as usize));
+        let keys = cluster.iter().enumerate().map(|(v, &c)| (c as usize, v as u16));
+        let (begins, members) = bucket(count, keys);
         let mut weights = vec![0; count];
         let mut first = Vec::with_capacity(count + 1);
         let mut links: Vec<Link> = Vec::with_capacity(self.forward.links.len());

@@ -1,6 +1,6 @@
 //! Inspection of a given table of parts.
 
-use crate::check::{check, refuse, Lists, Refusal};
+use crate::check::{check, ordered, refuse, Lists, Refusal};
 
 /// Checks 1 to 8 and 10 to 13. Writes the start order and answers the cut.
 #[allow(clippy::too_many_arguments)]
@@ -15,7 +15,7 @@ pub fn inspect(
     order: &mut [u16],
 ) -> Result<u64, Refusal> {
     let room = |n| parts.len() >= n && order.len() >= k as usize;
-    let (graph, _) = check(Lists { costs, starts, ends, widths }, k, bound, room)?;
+    let (graph, _) = check(Lists { costs, starts, ends, widths }, k, bound, room, ordered).result?;
     let k = k as usize;
     let parts = &parts[..costs.len()];
     if let Some(v) = parts.iter().position(|&p| p as usize >= k) {

@@ -1,4 +1,4 @@
-//! An acyclic graph partitioner by document 01 with request a of document 02: joining, first cut, moves.
+//! An acyclic graph partitioner by document 01 with requests a and b of document 02: joining, first cut, moves.
 //!
 //! Document 01's blocks, wires, groups and stages are vertices, edges, clusters and parts
 //! here. Its rungs are the levels of a hierarchy.
@@ -14,11 +14,11 @@ pub mod inspect;
 pub mod refine;
 pub mod text;
 
-pub use check::Refusal;
+pub use check::{check_kit, Checked, Refusal};
 pub use inspect::inspect;
 pub use text::{read_kit, Kit};
 
-use check::{check, refuse, Lists};
+use check::{check, ordered, refuse, Lists};
 use coarsen::{hierarchy, Level};
 
 /// What a split answers beside the two tables.
@@ -74,7 +74,7 @@ pub fn split_telling(
     mut tell: impl FnMut(Passes),
 ) -> Result<Split, Refusal> {
     let room = |n| parts.len() >= n && ladder.len() >= 9 * n;
-    let (graph, order) = check(Lists { costs, starts, ends, widths }, k, bound, room)?;
+    let (graph, order) = check(Lists { costs, starts, ends, widths }, k, bound, room, ordered).result?;
     let k = k as usize;
     let levels = hierarchy(graph, order, k, bound);
     write_rows(&levels, costs.len(), ladder);

@@ -1,10 +1,10 @@
-//! Some thousands of small kits against document 01 and request a written down naively.
+//! Some thousands of small kits against document 01 and requests a and b written down naively.
 
 mod naive;
 
 use reference::generate::Rng;
 use reference::graph::{Edge, Graph};
-use reference::{coarsen, initial, inspect, refine, split};
+use reference::{check_kit, coarsen, initial, inspect, refine, split, Checked, Refusal};
 
 const GUARD: u16 = 777;
 
@@ -20,6 +20,19 @@ struct Small {
 impl Small {
     fn wires(&self) -> [&[u16]; 3] {
         [&self.starts, &self.ends, &self.widths]
+    }
+
+    fn put_wire(&mut self, at: usize, start: u16, end: u16) {
+        self.starts.insert(at, start);
+        self.ends.insert(at, end);
+        self.widths.insert(at, 1);
+    }
+
+    /// The check, which the naive one has to equal.
+    fn check(&self, what: &str) -> Checked<()> {
+        let made = check_kit(&self.costs, &self.starts, &self.ends, &self.widths, self.k, self.limit);
+        assert_eq!(made, naive::check(&self.costs, self.wires(), self.k, self.limit), "{what}");
+        made
     }
 }
 
@@ -344,8 +357,8 @@ fn refusals_and_verdicts_agree_with_the_naive_ones() {
         let mut order = vec![GUARD; 20];
         let made =
             inspect(&kit.costs, &kit.starts, &kit.ends, &kit.widths, kit.k, kit.limit, &table, &mut order);
-        let expected = match naive::fault(&kit.costs, kit.wires(), kit.k, kit.limit) {
-            Some(refusal) => {
+        let expected = match kit.check(&format!("index {index}")).result {
+            Err(refusal) => {
                 let (mut parts, mut ladder) = (vec![GUARD; n + 1], vec![GUARD; 9 * n + 9]);
                 let made = split(
                     &kit.costs,
@@ -361,7 +374,7 @@ fn refusals_and_verdicts_agree_with_the_naive_ones() {
                 assert!(parts.iter().chain(&ladder).all(|&entry| entry == GUARD));
                 Err(refusal)
             }
-            None => {
+            Ok(()) => {
                 let table: Vec<usize> = table.iter().map(|&p| p as usize).collect();
                 naive::verdict(&naive::rung(&kit.costs, kit.wires()), k, kit.limit as u64, &table)
             }
@@ -375,6 +388,95 @@ fn refusals_and_verdicts_agree_with_the_naive_ones() {
     }
     for number in [0, 1, 2, 3, 5, 6, 7, 8, 10, 11, 12, 13] {
         assert!(seen[number] > 50, "refusal {number}: {seen:?}");
+    }
+}
+
+/// Wires repeated anywhere in kits with other faults or none.
+#[test]
+fn checks_agree_with_the_naive_check() {
+    let (mut seen, mut finds) = ([0; 9], Finds::default());
+    for index in 0..20_000 {
+        let mut r = Rng::new(9, index);
+        let mut kit = match index % 50 {
+            0 => kit(&mut r, 45, 5, 1 + index as usize / 50 % 3), // up to 990 wires
+            _ => sound(&mut r),
+        };
+        for _ in 0..r.pick(&[0, 0, 1, 2, 3]) {
+            repeat(&mut r, &mut kit);
+        }
+        for _ in 0..r.pick(&[0, 0, 0, 1, 2]) {
+            disturb(&mut r, &mut kit);
+        }
+        let made = kit.check(&format!("index {index}"));
+        let number = made.result.map_or_else(|refusal| refusal.number, |()| 0);
+        seen[number as usize] += 1;
+        if number == 7 {
+            finds.count(&kit, made.tried);
+        }
+    }
+    for number in [0, 1, 2, 3, 5, 6, 7, 8] {
+        assert!(seen[number] > 100, "refusal {number}: {seen:?}");
+    }
+    assert_eq!((seen[4], finds.rarest() > 100), (0, true), "{finds:?}");
+}
+
+/// A wire once more, anywhere behind it; in one case of four turned round.
+fn repeat(r: &mut Rng, kit: &mut Small) {
+    let m = kit.starts.len();
+    if m > 0 {
+        let wire = r.below(m);
+        let (start, end) = (kit.starts[wire], kit.ends[wire]);
+        let (start, end) = if r.one_in(4) { (end, start) } else { (start, end) };
+        kit.put_wire(r.range(wire + 1, m), start, end);
+    }
+}
+
+/// Kits of full size: without a repeat all wires are tried, and every wire is found again if it comes once more at the end.
+#[test]
+fn every_wire_of_a_large_kit_is_found_again() {
+    let check = |n: usize, [starts, ends]: &[Vec<u16>; 2]| {
+        check_kit(&vec![1; n], starts, ends, &vec![1; starts.len()], 1, 1)
+    };
+    for index in 0..9 {
+        let mut r = Rng::new(10, index);
+        let n = [47, 100, 512][index as usize % 3];
+        let mut pairs: Vec<(usize, usize)> = (0..n).flat_map(|a| (a + 1..n).map(move |b| (a, b))).collect();
+        r.shuffle(&mut pairs);
+        let list = |end: fn(&(usize, usize)) -> usize| pairs[..1_023].iter().map(|p| end(p) as u16).collect();
+        let mut wires: [Vec<u16>; 2] = [list(|p| p.0), list(|p| p.1)];
+        assert_eq!(check(n, &wires), Checked { result: Ok(()), tried: 1_023 }, "index {index}");
+        for wire in 0..1_023 {
+            wires.iter_mut().for_each(|list| list.push(list[wire]));
+            let found = Checked { result: Err(Refusal { number: 7, place: 1_023 }), tried: 1_024 };
+            assert_eq!(check(n, &wires), found, "index {index}, wire {wire}");
+            wires.iter_mut().for_each(|list| list.truncate(1_023));
+        }
+    }
+}
+
+/// How many kits were refused with 7 in a certain way.
+#[derive(Debug, Default)]
+struct Finds {
+    /// The repeat is wire 1, is the last wire, is another one.
+    first: u32,
+    last: u32,
+    between: u32,
+    /// A later repeat is of a lower wire than the one found.
+    lower_later: u32,
+}
+
+impl Finds {
+    fn count(&mut self, kit: &Small, tried: usize) {
+        let (m, wire) = (kit.starts.len(), |w: usize| (kit.starts[w], kit.ends[w]));
+        let first_like = |w: usize| (0..=w).find(|&e| wire(e) == wire(w)).unwrap();
+        self.first += (tried == 2) as u32;
+        self.last += (tried == m) as u32;
+        self.between += (2 < tried && tried < m) as u32;
+        self.lower_later += (tried..m).any(|w| first_like(w) < first_like(tried - 1)) as u32;
+    }
+
+    fn rarest(&self) -> u32 {
+        self.first.min(self.last).min(self.between).min(self.lower_later)
     }
 }
 
@@ -402,8 +504,7 @@ fn disturb(r: &mut Rng, kit: &mut Small) {
 fn levels(kit: &Small) -> Vec<coarsen::Level> {
     let edge =
         |e: usize| Edge { from: kit.starts[e] as u32, to: kit.ends[e] as u32, width: kit.widths[e] as u32 };
-    let edges: Vec<Edge> = (0..kit.starts.len()).map(edge).collect();
-    let graph = Graph::new(kit.costs.iter().map(|&c| c as u32).collect(), &edges);
+    let graph = Graph::new(kit.costs.iter().map(|&c| c as u32).collect(), (0..kit.starts.len()).map(edge));
     let order = graph.topological_order();
     coarsen::hierarchy(graph, order, kit.k as usize, kit.limit)
 }

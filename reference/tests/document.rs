@@ -1,7 +1,7 @@
 //! The cases of document 01, and its text formats.
 
 use reference::text::{answer, read_table, verdict};
-use reference::{inspect, read_kit, split, Kit, Refusal, Split};
+use reference::{check_kit, inspect, read_kit, split, Checked, Kit, Refusal, Split};
 
 struct Made {
     answer: Result<Split, Refusal>,
@@ -131,6 +131,50 @@ fn stages_are_evened_out() {
     // first 0,1,1: block 1 in the first pass, block 0 in the second
     let made = run(&[1, 3, 2], 2, 5, &[]);
     assert_eq!((made.answer, &made.stages[..]), (evened, &[1, 0, 1][..]));
+}
+
+/// Checks a kit of costs 1 under a limit of 1; wires are (start, end). The number and place, and how many were tried.
+fn checked(n: usize, k: u32, wires: &[(u16, u16)]) -> (u32, u32, usize) {
+    let starts: Vec<u16> = wires.iter().map(|w| w.0).collect();
+    let ends: Vec<u16> = wires.iter().map(|w| w.1).collect();
+    let Checked { result, tried } = check_kit(&vec![1; n], &starts, &ends, &vec![1; wires.len()], k, 1);
+    let (number, place) = result.map_or_else(|refusal| (refusal.number, refusal.place), |()| (0, 0));
+    (number, place, tried)
+}
+
+/// Request b of document 02: the place and one more at a find, m otherwise; 0 if the search is not come to.
+#[test]
+fn wires_tried_are_counted() {
+    assert_eq!(checked(3, 1, &[]), (0, 0, 0));
+    assert_eq!(checked(3, 1, &[(0, 1), (0, 2), (1, 2)]), (0, 0, 3));
+    assert_eq!(checked(3, 1, &[(0, 1), (0, 1)]), (7, 1, 2));
+    assert_eq!(checked(3, 1, &[(1, 2), (1, 2), (0, 1), (0, 2)]), (7, 1, 2));
+    assert_eq!(checked(3, 1, &[(0, 1), (1, 2), (0, 2), (0, 1)]), (7, 3, 4));
+    // wire 3 repeats a lower one than wire 2 does
+    assert_eq!(checked(3, 1, &[(0, 1), (1, 2), (1, 2), (0, 1)]), (7, 2, 3));
+    // turned round it is no repeat, and a repeat is found before a loop is looked for
+    assert_eq!(checked(2, 1, &[(0, 1), (1, 0)]), (8, 0, 2));
+    assert_eq!(checked(3, 1, &[(2, 1), (1, 2), (0, 1)]), (8, 1, 3));
+    assert_eq!(checked(2, 1, &[(0, 1), (1, 0), (1, 0)]), (7, 2, 3));
+    assert_eq!(checked(2, 1, &[(0, 1), (0, 1), (1, 1)]), (6, 2, 0));
+    assert_eq!(checked(2, 3, &[(0, 1), (0, 1)]), (2, 0, 0));
+    assert_eq!(checked(0, 1, &[(0, 1), (0, 1)]), (1, 0, 0));
+    let ragged = check_kit(&[1; 2], &[0, 0], &[1, 1], &[1], 1, 1);
+    assert_eq!(ragged, Checked { result: refused(3, 0), tried: 0 });
+    let dear = check_kit(&[1, 2], &[0, 0], &[1, 1], &[1; 2], 1, 1);
+    assert_eq!(dear, Checked { result: refused(5, 1), tried: 0 });
+}
+
+/// Two hubs of 511 wires each, one between them, and three wires more: a kit of full size.
+#[test]
+fn two_hubs_are_tried_to_the_end() {
+    let from = |hub: u16| (hub + 1..512).map(move |b| (hub, b));
+    let mut wires: Vec<(u16, u16)> = from(0).chain(from(1)).chain([(2, 3), (3, 4), (4, 5)]).collect();
+    assert_eq!(checked(512, 2, &wires), (0, 0, 1_024));
+    wires[1_023] = (1, 511);
+    assert_eq!(checked(512, 2, &wires), (7, 1_023, 1_024));
+    wires[1_023] = (511, 0);
+    assert_eq!(checked(512, 2, &wires), (8, 0, 1_024));
 }
 
 #[test]

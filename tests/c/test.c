@@ -9,7 +9,7 @@ enum { GUARD = 0xA5A5, PAD = 8 };
 static uint16_t costs[HATCH_BLOCKS + 1 + PAD], starts[HATCH_WIRES + 1 + PAD], ends[HATCH_WIRES + 1 + PAD], widths[HATCH_WIRES + 1 + PAD];
 static uint16_t table[HATCH_BLOCKS + PAD], ladder[HATCH_ROWS * HATCH_BLOCKS + PAD], order[HATCH_STAGES + PAD];
 static size_t answer[4 + PAD];
-static size_t n, m, k, failed, hit[17];
+static size_t n, m, k, failed, hit[17], check_hit[HATCH_LOOP + 1];
 static uint32_t limit;
 
 static void expect(int ok, const char *what, int line)
@@ -85,6 +85,22 @@ static uint32_t inspect_with(size_t t, size_t o)
     return hatch_inspect(n ? costs : NULL, n, m ? starts : NULL, m, m ? ends : NULL, m, m ? widths : NULL, m, k, limit, table, t, order, o, answer);
 }
 
+/* A kit is checked: the number, the place, and how many wires were tried as repeats. The lists stay as they are. */
+static void checked(int line, size_t a, size_t b, size_t w, uint32_t number, size_t place, size_t tried)
+{
+    static uint16_t before[4][HATCH_WIRES + 1 + PAD];
+    memcpy(before[0], costs, sizeof costs), memcpy(before[1], starts, sizeof starts);
+    memcpy(before[2], ends, sizeof ends), memcpy(before[3], widths, sizeof widths);
+    fresh();
+    uint32_t got = hatch_check(n ? costs : NULL, n, a ? starts : NULL, a, b ? ends : NULL, b, w ? widths : NULL, w, k, limit, answer);
+    check_hit[number]++;
+    expect(got == number, "the check's number", line);
+    expect(answer[0] == place && answer[1] == tried && answer_guarded(HATCH_CHECK_ANSWER), "the check's place and count, in two cells", line);
+    expect(!memcmp(before[0], costs, sizeof costs) && !memcmp(before[1], starts, sizeof starts), "costs and starts are untouched", line);
+    expect(!memcmp(before[2], ends, sizeof ends) && !memcmp(before[3], widths, sizeof widths), "ends and widths are untouched", line);
+}
+#define CHECKED(number, place, tried) checked(__LINE__, m, m, m, number, place, tried)
+
 static void is_refused(int line, uint32_t got, uint32_t number, size_t place, size_t cells)
 {
     if (number < 17)
@@ -96,7 +112,7 @@ static void is_refused(int line, uint32_t got, uint32_t number, size_t place, si
         expect(guarded(ladder, 0, HATCH_ROWS * HATCH_BLOCKS + PAD), "the ladder is untouched", line);
 }
 
-/* both calls refuse the kit alike */
+/* split and inspection refuse the kit alike, and so does the check */
 #define KIT_REFUSED(number, place)                                                        \
     do {                                                                                  \
         fresh();                                                                          \
@@ -104,6 +120,7 @@ static void is_refused(int line, uint32_t got, uint32_t number, size_t place, si
         fresh();                                                                          \
         is_refused(__LINE__, inspect_with(n, k), number, place, 1);                    \
         EXPECT(guarded(order, 0, HATCH_STAGES + PAD));                                    \
+        CHECKED(number, place, number < 7 ? 0 : number == 7 ? (place) + 1 : m);           \
     } while (0)
 
 static void kits_refused(void)
@@ -113,6 +130,7 @@ static void kits_refused(void)
     plain(513, 1, 9999);
     fresh();
     is_refused(__LINE__, split_with(m, HATCH_BLOCKS, HATCH_ROWS * HATCH_BLOCKS), 1, 0, 4);
+    CHECKED(1, 0, 0);
     plain(4, 0, 9);
     KIT_REFUSED(2, 0);
     plain(4, 5, 9);
@@ -174,6 +192,7 @@ static void uncut(void)
     is_refused(__LINE__, split_with(0, n, 9 * n), 9, 0, 4);
     EXPECT(ladder[0] == 0 && ladder[1] == 1 && ladder[2] == 2);
     EXPECT(guarded(ladder, 3, HATCH_ROWS * HATCH_BLOCKS + PAD));
+    CHECKED(0, 0, 0);
 }
 
 /* a table, inspected */
@@ -217,6 +236,7 @@ static void sound(void)
     EXPECT(answer[0] == 1 && answer[1] == 1 && answer[2] == 1 && answer[3] == 0 && answer_guarded(4));
     EXPECT(!memcmp(table, stages, sizeof stages) && guarded(table, n, HATCH_BLOCKS + PAD));
     EXPECT(!memcmp(ladder + n, groups, sizeof groups) && guarded(ladder, 2 * n, HATCH_ROWS * HATCH_BLOCKS + PAD));
+    CHECKED(0, 0, 5);
 }
 
 /* request a of document 02: stages are evened out, by moves that are not counted */
@@ -263,6 +283,75 @@ static void largest(void)
     EXPECT(answer[0] == cut && guarded(order, k, HATCH_STAGES + PAD));
     for (size_t s = 0; s < k; s++)
         EXPECT(order[s] == s);
+    CHECKED(0, 0, 1024);
+}
+
+/* request b of document 02: how many wires are tried, to the first find */
+static void tried(void)
+{
+    plain(3, 1, 1);
+    CHECKED(0, 0, 0);
+    wire(0, 1, 1), wire(1, 2, 1);
+    CHECKED(0, 0, 2);
+    wire(1, 2, 1), wire(0, 1, 1); /* wire 3 repeats a lower one than wire 2 does */
+    CHECKED(7, 2, 3);
+    plain(3, 1, 1);
+    wire(0, 1, 1), wire(0, 1, 2), wire(1, 0, 1), wire(0, 1, 1);
+    CHECKED(7, 1, 2);
+    plain(3, 1, 1);
+    wire(1, 2, 1), wire(0, 1, 1), wire(0, 2, 1), wire(1, 2, 1);
+    CHECKED(7, 3, 4);
+    wire(2, 2, 1); /* a fault with a lower number is looked for before, in all wires */
+    CHECKED(6, 4, 0);
+    costs[1] = 2;
+    CHECKED(5, 1, 0);
+    plain(3, 1, 1);
+    wire(0, 1, 1), wire(2, 1, 1), wire(1, 2, 1);
+    CHECKED(8, 1, 3);
+}
+
+/* wire lists of unequal length, one of them perhaps NULL; stage count and limit at their ends */
+static void check_ends(void)
+{
+    plain(17, 16, UINT32_MAX);
+    wire(0, 1, 1), wire(0, 1, 1);
+    for (size_t l = 0; l < 4; l++)
+        if (l != m) {
+            checked(__LINE__, l, m, m, 3, 0, 0);
+            checked(__LINE__, m, l, m, 3, 0, 0);
+            checked(__LINE__, m, m, l, 3, 0, 0);
+        }
+    const size_t bad[] = {0, 17, (size_t)UINT32_MAX + 1, (size_t)UINT32_MAX + 2, SIZE_MAX};
+    plain(17, 16, UINT32_MAX);
+    wire(16, 0, 1);
+    CHECKED(0, 0, 1);
+    for (size_t i = 0; i < sizeof bad / sizeof *bad; i++) {
+        k = bad[i];
+        CHECKED(2, 0, 0);
+    }
+    k = 1, limit = 0;
+    CHECKED(5, 0, 0);
+    limit = 65534, costs[16] = 65535;
+    CHECKED(5, 16, 0);
+    limit = 65535;
+    CHECKED(0, 0, 1);
+}
+
+/* two hubs of 511 wires each, one of them between the two, and three wires more: 512 blocks, 1,024 wires */
+static void two_hubs(void)
+{
+    plain(512, 16, 1);
+    for (uint16_t hub = 0; hub < 2; hub++)
+        for (uint16_t i = hub + 1; i < 512; i++)
+            wire(hub, i, 1);
+    wire(2, 3, 1), wire(3, 4, 1), wire(4, 5, 1);
+    CHECKED(0, 0, 1024);
+    ends[1023] = 511, starts[1023] = 1;
+    CHECKED(7, 1023, 1024);
+    ends[1023] = 0, starts[1023] = 511;
+    CHECKED(8, 0, 1024);
+    wire(5, 6, 1);
+    CHECKED(3, 0, 0);
 }
 
 #ifndef NO_READ
@@ -313,12 +402,17 @@ int main(void)
     evened();
     evened_largest();
     largest();
+    tried();
+    check_ends();
+    two_hubs();
 #ifndef NO_READ
     texts();
     last = 16;
 #endif
     for (size_t i = 1; i <= last; i++)
         EXPECT(hit[i] > 0);
-    printf("tests/c: %s, refusals 1 to %zu hit\n", failed ? "FAILED" : "passed", last);
+    for (size_t i = 0; i <= HATCH_LOOP; i++)
+        EXPECT((check_hit[i] > 0) == (i != HATCH_TOO_SHORT));
+    printf("tests/c: %s, refusals 1 to %zu hit, by the check all up to 8 but 4\n", failed ? "FAILED" : "passed", last);
     return failed != 0;
 }

@@ -1,7 +1,7 @@
-//! Document 01 with the moves of document 02 a, written down as directly as possible, with no regard for
-//! speed.
+//! Document 01 with the moves of document 02 a and the count of b, written down as directly as possible, with no
+//! regard for speed.
 
-use reference::Refusal;
+use reference::{Checked, Refusal};
 use std::collections::BTreeMap;
 
 /// Groups with their costs, and one wire for each pair of groups.
@@ -253,8 +253,20 @@ fn first_and_moves(blocks: &Rung, rows: &[Vec<usize>], at: usize, k: usize, limi
     Some(Split { cut, rounds: rows.len() - 1, rung: at, moves, evened, stages: stage_of_block })
 }
 
+/// The fault, and how many wires were tried as repeats: none if the search was not come to, the place and one
+/// more at a find, all of them otherwise.
+pub fn check(costs: &[u16], wires: [&[u16]; 3], k: u32, limit: u32) -> Checked<()> {
+    let fault = fault(costs, wires, k, limit);
+    let tried = match fault {
+        Some(refusal) if refusal.number < 7 => 0,
+        Some(refusal) if refusal.number == 7 => refusal.place as usize + 1,
+        _ => wires[0].len(),
+    };
+    Checked { result: fault.map_or(Ok(()), Err), tried }
+}
+
 /// Checks 1 to 3 and 5 to 8, on whatever is lent.
-pub fn fault(costs: &[u16], wires: [&[u16]; 3], k: u32, limit: u32) -> Option<Refusal> {
+fn fault(costs: &[u16], wires: [&[u16]; 3], k: u32, limit: u32) -> Option<Refusal> {
     let refused = |number, place: usize| Some(Refusal { number, place: place as u32 });
     let n = costs.len();
     let [starts, ends, widths] = wires;

@@ -1,4 +1,4 @@
-//! The three calls of the archive and those of the reference, each as one outcome: the number, the cells and every table.
+//! The calls of the archive and those of the reference, each as one outcome: the number, the cells and every table.
 //! A slice is a pointer and a length: two parameters; the cells are one pointer.
 
 use reference::Refusal;
@@ -37,6 +37,19 @@ extern "C" {
         order: *mut u16,
         order_len: usize,
         answer: *mut [usize; 1],
+    ) -> u32;
+    fn hatch_check(
+        costs: *const u16,
+        costs_len: usize,
+        starts: *const u16,
+        starts_len: usize,
+        ends: *const u16,
+        ends_len: usize,
+        widths: *const u16,
+        widths_len: usize,
+        k: usize,
+        limit: u32,
+        answer: *mut [usize; 2],
     ) -> u32;
     fn hatch_read(
         text: *const u8,
@@ -105,11 +118,16 @@ fn cells<const N: usize>(call: impl FnOnce(*mut [usize; N]) -> u32) -> (u32, Vec
 pub struct Lent {
     pub costs: Vec<u16>,
     pub wires: [Vec<u16>; 3],
-    pub k: u32,
+    pub k: usize,
     pub limit: u32,
 }
 
 impl Lent {
+    /// The stage count as the reference takes it: 32 bits, and all that lie above are refused alike.
+    fn stages(&self) -> u32 {
+        self.k.try_into().unwrap_or(u32::MAX)
+    }
+
     pub fn split(&self, table: usize, ladder: usize) -> Outcome {
         let (mut t, mut l) = (Guarded::new(table), Guarded::new(ladder));
         let [a, b, w] = &self.wires;
@@ -124,7 +142,7 @@ impl Lent {
                 b.len(),
                 w.as_ptr(),
                 w.len(),
-                self.k as usize,
+                self.k,
                 self.limit,
                 table,
                 table_len,
@@ -139,7 +157,7 @@ impl Lent {
     pub fn split_by_reference(&self, table: usize, ladder: usize) -> Outcome {
         let (mut t, mut l) = (vec![GUARD; table], vec![GUARD; ladder]);
         let [a, b, w] = &self.wires;
-        let answer = reference::split(&self.costs, a, b, w, self.k, self.limit, &mut t, &mut l);
+        let answer = reference::split(&self.costs, a, b, w, self.stages(), self.limit, &mut t, &mut l);
         let values = answer.map(|s| vec![s.cut, s.rounds.into(), s.rung.into(), s.moves.into()]);
         outcome(4, values, vec![t, l])
     }
@@ -158,7 +176,7 @@ impl Lent {
                 b.len(),
                 w.as_ptr(),
                 w.len(),
-                self.k as usize,
+                self.k,
                 self.limit,
                 table.as_ptr(),
                 table.len(),
@@ -173,8 +191,49 @@ impl Lent {
     pub fn inspect_by_reference(&self, table: &[u16], order: usize) -> Outcome {
         let mut o = vec![GUARD; order];
         let [a, b, w] = &self.wires;
-        let answer = reference::inspect(&self.costs, a, b, w, self.k, self.limit, table, &mut o);
+        let answer = reference::inspect(&self.costs, a, b, w, self.stages(), self.limit, table, &mut o);
         outcome(1, answer.map(|cut| vec![cut]), vec![o])
+    }
+
+    pub fn check(&self) -> Outcome {
+        let [a, b, w] = &self.wires;
+        let (number, cells) = cells(|answer| unsafe {
+            hatch_check(
+                self.costs.as_ptr(),
+                self.costs.len(),
+                a.as_ptr(),
+                a.len(),
+                b.as_ptr(),
+                b.len(),
+                w.as_ptr(),
+                w.len(),
+                self.k,
+                self.limit,
+                answer,
+            )
+        });
+        Outcome { number, cells, tables: vec![] }
+    }
+
+    pub fn check_by_reference(&self) -> Outcome {
+        let [a, b, w] = &self.wires;
+        let check = reference::check_kit(&self.costs, a, b, w, self.stages(), self.limit);
+        let place = check.result.err().map_or(0, |refusal| refusal.place as usize);
+        let number = check.result.err().map_or(0, |refusal| refusal.number);
+        Outcome { number, cells: vec![place, check.tried], tables: vec![] }
+    }
+
+    /// The check of a kit that was split as well: the reference's, and the split's number and place. 9 is not the
+    /// check's to say, and a split without room (4) got only past 1 to 3.
+    pub fn check_beside(&self, split: &Outcome, what: impl Fn() -> String) -> Outcome {
+        let ours = self.check();
+        assert_eq!(ours, self.check_by_reference(), "{}", what());
+        match split.number {
+            0 | 9 => assert_eq!((ours.number, ours.cells[0]), (0, 0), "{}", what()),
+            4 => assert!(![1, 2, 3].contains(&ours.number), "{}", what()),
+            number => assert_eq!((ours.number, ours.cells[0]), (number, split.cells[0]), "{}", what()),
+        }
+        ours
     }
 }
 

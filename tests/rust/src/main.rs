@@ -24,7 +24,7 @@ impl Tally {
     }
 }
 
-/// The reference's digest of a kit's answer and tables, taken of the archive's.
+/// The reference's digest of a kit's answer, tables and check, taken of the archive's.
 fn digest_values(lent: &digest::Lent) -> Vec<u64> {
     let n = lent.kit.weights.len();
     let [starts, ends, mut widths] = lent.kit.edge_lists();
@@ -32,14 +32,20 @@ fn digest_values(lent: &digest::Lent) -> Vec<u64> {
     let kit = Lent {
         costs: lent.kit.weights.iter().map(|&w| w as u16).collect(),
         wires: [starts, ends, widths],
-        k: lent.kit.k,
+        k: lent.kit.k as usize,
         limit: lent.kit.bound,
     };
     let o = kit.split(n - lent.short_parts, 9 * n - lent.short_ladder);
     let told = if o.number == 0 { 4 } else { 1 };
     let entry = |&e: &u16| if e == GUARD { UNTOUCHED } else { e.into() };
-    let cells = o.cells[..told].iter().map(|&v| v as u64);
-    [o.number.into()].into_iter().chain(cells).chain(o.tables.iter().flatten().map(entry)).collect()
+    let check = kit.check_beside(&o, || "a kit of the digest".to_string());
+    let value = |&v: &usize| v as u64;
+    let mut values = vec![o.number.into()];
+    values.extend(o.cells[..told].iter().map(value));
+    values.extend(o.tables.iter().flatten().map(entry));
+    values.push(check.number.into());
+    values.extend(check.cells.iter().map(value));
+    values
 }
 
 /// Lengths as asked for, or in one case of eight with one of them one short.
@@ -63,13 +69,13 @@ fn lists(r: &mut Rng, o: &Outcome) -> Lent {
     Lent {
         costs: o.tables[0][..blocks].to_vec(),
         wires: [cut(0), cut(1), cut(2)],
-        k: stages as u32,
+        k: stages,
         limit: limit as u32,
     }
 }
 
-/// One generated kit through the three calls.
-fn compare(seed: u64, index: u64, tally: &mut Tally) {
+/// One generated kit through all calls; the checks are counted apart.
+fn compare(seed: u64, index: u64, tally: &mut Tally, checks: &mut Tally) {
     let what = || format!("reference one {seed} {index} (table: reference table {seed} {index})");
     let text = case(seed, index).text;
     let r = &mut Rng::new(seed ^ 0x5EED, index);
@@ -86,9 +92,10 @@ fn compare(seed: u64, index: u64, tally: &mut Tally) {
         return;
     }
     let kit = lists(r, &whole);
-    let (n, k) = (kit.costs.len(), kit.k as usize);
+    let (n, k) = (kit.costs.len(), kit.k);
     let [t, l] = perhaps_short(r, [n, 9 * n]);
     let split = tally.same(kit.split(t, l), kit.split_by_reference(t, l), what);
+    checks.0[kit.check_beside(&split, what).number as usize] += 1;
     let given = table(seed, index);
     let [t, o] = perhaps_short(r, [given.len(), k]);
     tally.same(kit.inspect(&given[..t], o), kit.inspect_by_reference(&given[..t], o), what);
@@ -114,15 +121,18 @@ fn main() {
     assert_eq!(digest::lines(), STORED_DIGEST, "the reference's digest");
     assert_eq!(digest::lines_of(digest_values), STORED_DIGEST, "the archive's digest");
 
-    let mut tally = Tally([0; 17]);
-    (0..count).for_each(|index| compare(seed, index, &mut tally));
+    let (mut tally, mut checks) = (Tally([0; 17]), Tally([0; 17]));
+    (0..count).for_each(|index| compare(seed, index, &mut tally, &mut checks));
     for (number, times) in tally.0.iter().enumerate() {
         assert!(*times > 0, "number {number} never came");
+        let checked = number < 9 && number != 4;
+        assert_eq!(checks.0[number] > 0, checked, "number {number} of the check: {:?}", checks.0);
     }
     println!(
-        "tests/rust: passed: {cases} cases, {lines} lines of {}, the digest of {} kits, {count} generated kits; each number came (times): {:?}",
+        "tests/rust: passed: {cases} cases, {lines} lines of {}, the digest of {} kits, {count} generated kits; each number came (times): {:?}; of the check: {:?}",
         vectors::NAME,
         digest::KITS,
-        tally.0
+        tally.0,
+        &checks.0[..9]
     );
 }

@@ -22,10 +22,12 @@ pub fn run() -> usize {
         let kit = Lent {
             costs: vector.costs.clone(),
             wires: vector.wires.clone(),
-            k: vector.k,
+            k: vector.k as usize,
             limit: vector.limit,
         };
-        assert_eq!(kit.split(n, 9 * n), outcome(wanted), "{NAME}, line {}", at + 1);
+        let split = kit.split(n, 9 * n);
+        assert_eq!(split, outcome(wanted), "{NAME}, line {}", at + 1);
+        kit.check_beside(&split, || format!("{NAME}, line {}", at + 1));
     }
     vectors.len()
 }
