@@ -105,22 +105,33 @@ fn lowest<T>(mut items: impl Iterator<Item = T> + Clone, bad: impl Fn(T) -> bool
 }
 
 /// Tries the edges from the lowest up as repeats of earlier ones, to the first find: which one it is, and how many
-/// were tried. A hash table holds those before it; half of its slots at least are free.
+/// were tried. A hash table holds those before it; few edges get a small one, which is soon cleared.
 fn first_repeat(starts: &[u16], ends: &[u16]) -> (Option<usize>, usize) {
-    const SLOTS: usize = 2 * MAX_EDGES;
-    let mut seen = [0; SLOTS]; // 0 is a free slot: no edge runs from 0 to 0
+    const FEW: usize = 128;
+    match starts.len() {
+        ..=FEW => first_repeat_in([0; 2 * FEW], starts, ends),
+        _ => first_repeat_in([0; 2 * MAX_EDGES], starts, ends),
+    }
+}
+
+/// The same in a table with more slots than edges, all free: a 0 there is no edge, since none runs from 0 to 0.
+fn first_repeat_in<const SLOTS: usize>(
+    mut seen: [u32; SLOTS],
+    starts: &[u16],
+    ends: &[u16],
+) -> (Option<usize>, usize) {
     let mut tried = 0;
     for (e, (&a, &b)) in starts.iter().zip(ends).enumerate() {
         tried += 1;
         let edge = (a as u32) << 16 | b as u32;
-        let mut slot = (edge.wrapping_mul(0x9e37_79b1) >> 21) as usize;
-        while seen[slot] != 0 {
-            if seen[slot] == edge {
+        let mut slot = edge.wrapping_mul(0x9e37_79b1) as usize >> (32 - SLOTS.ilog2());
+        while seen[slot % SLOTS] != 0 {
+            if seen[slot % SLOTS] == edge {
                 return (Some(e), tried);
             }
-            slot = (slot + 1) % SLOTS;
+            slot += 1;
         }
-        seen[slot] = edge;
+        seen[slot % SLOTS] = edge;
     }
     (None, tried)
 }
