@@ -1,6 +1,7 @@
 //! Times the split and the check of one or two static libraries and of the reference on the same kits, in turns.
 //! Usage: bench DIR TURNS CALL...; the calls are named below, and each kit's times go to DIR/../times.txt
 
+use reference::generate::Rng;
 use reference::read_kit;
 use std::collections::BTreeMap;
 use std::fmt::Write;
@@ -209,13 +210,15 @@ fn median(times: &mut [f64]) -> f64 {
     times[times.len() / 2]
 }
 
-/// The median microseconds of each call, one of each a turn, the first of a turn in rotation.
+/// The median microseconds of each call, one of each a turn. Their order is drawn anew for each turn: what a call finds
+/// in the caches is what the one before it left there.
 fn medians(calls: &[Call], l: &Lists, turns: usize) -> Vec<f64> {
-    let mut outcome = Outcome::new();
+    let (mut outcome, mut r) = (Outcome::new(), Rng::new(0, 0));
+    let mut order: Vec<usize> = (0..calls.len()).collect();
     let mut times = vec![Vec::with_capacity(turns); calls.len()];
-    for turn in 0..turns {
-        for i in 0..calls.len() {
-            let c = (turn + i) % calls.len();
+    for _ in 0..turns {
+        r.shuffle(&mut order);
+        for &c in &order {
             times[c].push(timed(calls[c].run, l, &mut outcome));
         }
     }
@@ -400,7 +403,7 @@ impl Figures {
             names.join(", ")
         );
         for row in &self.rows {
-            let times: Vec<String> = row.times.iter().map(|t| format!("{t:9.1}")).collect();
+            let times: Vec<String> = row.times.iter().map(|t| format!("{t:9.2}")).collect();
             let ratio = row.times[0] / row.times[1];
             writeln!(text, "{:<40} {} {ratio:6.2} {:5}", row.name, times.join(" "), row.passes).unwrap();
         }
