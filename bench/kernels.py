@@ -1,6 +1,6 @@
 #!/usr/bin/env python3
 """Writes kits as SHAPE-SIZE-kSTAGES-LIMIT.kit: task graphs of small PolyBench kernels, drawn
-shapes of growing size, kits whose stages are evened out for many passes, and kits that are refused late.
+shapes of growing size, kits whose stages are evened out for many passes, and kits that are refused.
 
 A task is one run of a kernel's statement; its cost is 1 for each operation. A wire runs from
 the last task that wrote an array element to each task that reads it, as wide as the elements
