@@ -4,11 +4,10 @@ use mathlib.Core.Path.{_≡_, refl, sym, ap, _∙_}
 use mathlib.Core.Bool.{true}
 use mathlib.Core.List.{List}
 use native.Mathlib.Omega.{arith}
-use lib.Dec.{eqb}
 use lib.ListN.{length, getD, set, length-set}
 use lib.Seq.{getD-set-same, getD-set-other}
 use borrow.Author.Tests.{eq-eqb, ne-eqb}
-use Rattle.folds.specs.Fold.{when, sumTo, zeros}
+use Rattle.folds.specs.Fold.{sumTo, zeros}
 use Rattle.folds.proofs.Cases.{either, eq-or-ne}
 use Rattle.folds.proofs.Sums.{sumTo-member}
 use Rattle.folds.proofs.Searches.{firstTo-all}
@@ -31,21 +30,16 @@ use Rattle.ordering.proofs.Waiting.{leave-other, lowered-none, lowered-
 pub lined-none : {count queue : List ℕ} → length queue ≡ 512 → Lined count queue 0
 lined-none e = record { long = e; few = omega arith; entries = λ i l. absurd (omega arith) }
 
--- b at its end counts where r is 1
-pub lined-more : {count queue : List ℕ} {t b r : ℕ} → Lined count queue t → t < 512 → b < 512 → r ≡ when (eqb (getD count b 0) 0) 1 → r ≤ 1 → Lined count (set queue t b) (t + r)
-lined-more {count} {queue} {t} {b} {r} Q lt lb e k =
+pub lined-more : {count queue : List ℕ} {t b : ℕ} → Lined count queue t → t < 512 → b < 512 → getD count b 0 ≡ 0 → Lined count (set queue t b) (t + 1)
+lined-more {count} {queue} {t} {b} Q lt lb z =
     record {
       long = length-set queue t b ∙ Q .long;
       few = omega arith;
       entries = λ i l.
           either (eq-or-ne i t)
-          (λ q. rw (q, getD-set-same queue t b 0 (omega (arith, Q .long))) (lb, zero-at i q l))
+          (λ q. rw (q, getD-set-same queue t b 0 (omega (arith, Q .long))) (lb, z))
           (λ n. rw (getD-set-other queue t i b 0 n) (Q .entries i (omega arith)));
     }
-  where
-    zero-at : (i : ℕ) → i ≡ t → i < t + r → getD count b 0 ≡ 0
-    zero-at i q l =
-        either (eq-or-ne (getD count b 0) 0) (λ z. z) (λ n. let z : r ≡ 0 = rw (ne-eqb (getD count b 0) 0 n) at e in absurd (omega arith))
 
 -- an edge fewer into b
 pub lined-less : {count queue : List ℕ} {t b : ℕ} → length count ≡ 512 → b < 512 → 0 < getD count b 0 → Lined count queue t → Lined (set count b (getD count b 0 - 1)) queue t

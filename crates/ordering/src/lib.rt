@@ -4,7 +4,7 @@ ghost use mathlib.Core.Bool.{true};
 ghost use mathlib.Core.Logic.{_⊎_};
 ghost use Prim.Native.Nat.{ℕ, _+_, _<_, _≤_};
 ghost use lib.ListN.{length, getD};
-ghost use Rattle.folds.specs.Fold.{pick, when, sumTo, over, zeros};
+ghost use Rattle.folds.specs.Fold.{pick, sumTo, over, zeros};
 ghost use Rattle.graph.specs.Walk.{Walk};
 ghost use Rattle.graph.specs.Graph.{joining, Edge, Inside};
 ghost use Rattle.graph.specs.Links.{Linked, Ended, leave};
@@ -401,24 +401,20 @@ pub fn lowest_on_cycle(
     search_rest(starts, ends, head, next, g, taken, count)
 }
 
-// 1 where nothing is waited for, else 0: a number, so that the queue grows without a branch.
-fn none_left(c: u16) -> usize
-    ensures { λ r. ⌜ (r ≡ when (eqb c 0) 1) × (r ≤ 1) ⌝ }
-{
-    if c == 0 { 1 } else { 0 }
-}
-
 // Puts b at the end of the queue where it waits for nothing and there is room. Answers how many the queue then holds.
 fn line_up(count: &[u16; 512], b: usize, queue: &mut [u16; 512], t: usize) -> usize
     requires { ⌜ b < 512 ⌝ }
     requires { ⌜ Lined (now count) (now queue) t ⌝ }
     ensures { λ r. ⌜ Lined (now (count .entry)) (now (queue .exit)) r ⌝ }
 {
+    if count[b] != 0 {
+        return t;
+    }
     if t >= 512 {
         return t;
     }
     queue[t] = b as u16;
-    t + none_left(count[b])
+    t + 1
 }
 
 // The clusters below g that wait for nothing. Answers how many the queue holds.

@@ -27,7 +27,7 @@ use Rattle.validity.specs.declared.Cause.{Cause}
 use Rattle.validity.specs.declared.Verdict.{Verdict}
 use Rattle.validity.specs.declared.Verdict.the-variants.{Passed, Refused}
 use Rattle.validity.proofs.Checks.{lists-early}
-use Rattle.validity.specs.Words.{WordsRoom, wordOf, isBit, BitsSet, Next, Tried}
+use Rattle.validity.specs.Words.{WordsRoom, wordOf, isBit, BitsSet, Next}
 
 -- a search that found none so far goes on to an edge that it tries
 pub tries-next : (m j : ℕ) (p : ℕ → Bool) → firstTo j p ≡ j → j < m → j < tried (firstTo m p) m

@@ -1,6 +1,5 @@
 -- The edge has its word and its bit, since it is one of those that are tried; the bit is set already exactly if the edge repeats an earlier one.
 use Prim.Native.Nat.{_<_, _*_, _+_, _/_}
-use mathlib.Core.Path.{_≡_}
 use native.Mathlib.Omega.{arith}
 use lib.ListN.{length, length-set}
 use borrow.Author.Needs.{needs}
