@@ -13,13 +13,14 @@ use Rattle.folds.proofs.Sums.{sumTo-member}
 use Rattle.folds.proofs.Searches.{firstTo-all}
 use Rattle.folds.proofs.Lists.{length-zeros, set-sub}
 use Rattle.graph.specs.Walk.{Walk, one, more}
-use Rattle.graph.specs.Graph.{Arcs, Edge}
+use Rattle.graph.specs.Graph.{Arcs, Edge, Inside}
 use Rattle.graph.specs.Links.{Linked, leave}
-use Rattle.graph.proofs.Walks.{ahead}
+use Rattle.graph.proofs.Walks.{rank-law, ahead}
 use Rattle.graph.proofs.Edges.{edge-arc, edge-other}
 use Rattle.graph.proofs.Links.{On}
 use Rattle.topology.specs.Order.{waits}
 use Rattle.topology.specs.Reach.{lowestOnCycle}
+use Rattle.topology.proofs.Reaches.{lowest-none}
 use Rattle.ordering.specs.Search.{marked}
 use Rattle.ordering.specs.Counts.{left, gone, Counted}
 use Rattle.ordering.specs.Line.{Lined, Less, Fallen, Freed}
@@ -100,6 +101,10 @@ module _ (A : Arcs) where
       free : Walk (Edge A) u u → ⊥
       free (one e) = edge-other A u u e refl
       free (more {b = x} w e) = F .off x (before-marked u x (F .counted) l c e) (ahead e w)
+
+  -- where every edge goes up in number
+  pub up-free : (g : ℕ) → Inside A g → ((j : ℕ) → j < A .count → A .from j < A .to j) → lowestOnCycle A g ≡ g
+  up-free g inside up = lowest-none A g inside (rank-law (Edge A) (λ x. x) (λ a b e. let (j, h, ea, eb) = edge-arc A a b e in omega (arith, up j h)))
 
   -- all were taken
   pub freed-end : {marks count queue : List ℕ} {t : ℕ} (g : ℕ) → Freed A marks count queue t → ((v : ℕ) → v < g → marked marks v ≡ true) → lowestOnCycle A g ≡ g

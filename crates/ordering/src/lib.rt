@@ -565,6 +565,21 @@ fn is_free(starts: &[u16], ends: &[u16], g: usize) -> bool
     are_marked(&marks, g)
 }
 
+// Whether every edge goes up in number.
+fn rises(starts: &[u16], ends: &[u16]) -> bool
+    requires { ⌜ length (now ends) ≡ length (now starts) ⌝ }
+    ensures { λ r. ⌜ (r ≡ true → (j : ℕ) → j < length (now (starts .entry)) → getD (now (starts .entry)) j 0 < getD (now (ends .entry)) j 0) ⌝ }
+{
+    let mut j: usize = 0;
+    while j < starts.len() {
+        if ends[j] <= starts[j] {
+            return false;
+        }
+        j += 1;
+    }
+    true
+}
+
 // The lowest of g clusters that lies on a cycle, or g, where nothing else of the order is wanted.
 pub fn find_cycle(starts: &[u16], ends: &[u16], g: usize) -> usize
     requires { ⌜ Ended (now starts) (now ends) ⌝ }
@@ -572,6 +587,9 @@ pub fn find_cycle(starts: &[u16], ends: &[u16], g: usize) -> usize
     requires { ⌜ g ≤ 512 ⌝ }
     ensures { λ r. ⌜ r ≡ lowestOnCycle (joining (now (starts .entry)) (now (ends .entry))) g ⌝ }
 {
+    if rises(starts, ends) {
+        return g;
+    }
     if is_free(starts, ends, g) {
         return g;
     }
