@@ -358,16 +358,20 @@ impl Figures {
         }
     }
 
-    /// The library's check over its split of the same kit, for some of the kits, beside what is asked for.
-    fn print_check(&self, kits: &str, asked: &str, of: impl Fn(&Row) -> bool) {
+    /// The library's check over its split of the same kit, for some of the kits, beside the most that is asked for.
+    fn print_check(&self, kits: &str, most: Option<f64>, of: impl Fn(&Row) -> bool) {
         let (Some(check), Some(split)) = (self.column("library_check"), self.column("library")) else {
             return;
         };
-        let mut r = Ratios::default();
+        let (mut r, mut within) = (Ratios::default(), 0);
         for row in self.rows.iter().filter(|row| of(row)) {
-            r.add(row.times[check] / row.times[split], &row.name);
+            let ratio = row.times[check] / row.times[split];
+            r.add(ratio, &row.name);
+            within += most.is_some_and(|most| ratio <= most) as usize;
         }
         let Ratios { kits: count, worst, name, .. } = &r;
+        let asked =
+            most.map_or(String::new(), |most| format!("; at most {most:.2} is asked for: {within} are"));
         println!(
             "library_check / library, {kits}: {count} kits, worst {worst:.3} ({name}), mean {:.3}{asked}",
             r.mean()
@@ -437,14 +441,11 @@ fn main() {
         figures.print_ratios(&format!("{over}_check"), &format!("{under}_check"));
     }
     println!();
-    figures.print_check("512 blocks and 1,024 wires, split", "; asked for is at most 0.10", |row| {
-        row.full() && !row.refused
+    figures.print_check("512 blocks and 1,024 wires, split", Some(0.1), |row| row.full() && !row.refused);
+    figures.print_check("two hubs of 511 wires each, split", Some(1.0), |row| row.two_hubs() && !row.refused);
+    figures.print_check("two hubs, the last wire repeated", None, |row| {
+        row.two_hubs() && row.shape() == "repeat"
     });
-    figures.print_check("two hubs of 511 wires each, split", "; asked for is at most 1.00", |row| {
-        row.two_hubs() && !row.refused
-    });
-    figures
-        .print_check("two hubs, the last wire repeated", "", |row| row.two_hubs() && row.shape() == "repeat");
     figures.print_calls();
     println!("{different} answers differ");
     std::process::exit((different > 0) as i32);
