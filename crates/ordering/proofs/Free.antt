@@ -47,7 +47,7 @@ module _ (starts ends : List ℕ) (same : length ends ≡ length starts) where
       let t = arc-edge (joining ends starts) j (omega arith) (λ q. edge-other (joining starts ends) a b e (sym ea ∙ sym q ∙ eb)) in
       rw (ea, eb) at t
 
-pub not-on : (A : Arcs) (g v : ℕ) → (Walk (Edge A) v v → ⊥) → onCycle A g v ≡ false
+not-on : (A : Arcs) (g v : ℕ) → (Walk (Edge A) v v → ⊥) → onCycle A g v ≡ false
 not-on A g v n = by (onCycle A g v) (λ t. absurd (n (on-cycle-walk A g v t))) (λ f. f)
 
 -- the edges turned round

@@ -3,4 +3,3 @@ pub mod Opens
 pub mod Free
 pub mod Searching
 pub mod Sweeps
-pub mod Lines

@@ -17,7 +17,7 @@ use Rattle.graph.specs.Graph.{Arcs}
 use Rattle.graph.specs.Links.{Linked, leave}
 use Rattle.graph.proofs.Links.{leave-from, stays, Only, On, sum-on, sum-next}
 use Rattle.topology.specs.Order.{waits, ready, orNone, orderFrom}
-use Rattle.ordering.specs.Counts.{left, cross, gone, Counted, TakenOff, Lowered, Released, Across, free}
+use Rattle.ordering.specs.Counts.{left, cross, gone, Counted, TakenOff, Released, Across, free}
 
 module _ (A : Arcs) where
   pub left-le : (marks : List ℕ) (v j : ℕ) → left A marks v j ≤ 1
@@ -61,43 +61,27 @@ module _ (A : Arcs) where
       split true = refl
       split false = refl
 
-  -- an edge on the list of u goes to another one
-  pub leave-other : {u b : ℕ} (j : ℕ) → leave A j ≡ u → u < 512 → b ≡ A .to j → u ≡ b → ⊥
-  unfolding leave
-  leave-other {u} j e lu k q = let z : 512 ≡ u = rw (eq-eqb (A .from j) (A .to j) (leave-from A j e lu ∙ q ∙ k)) at e in omega arith
+  module _ {m : ℕ} {head next : List ℕ} (L : Linked (leave A) m head next) (count₀ pool₀ : List ℕ) (u g : ℕ) (lu : u < 512) where
+    pub released-none : length count₀ ≡ 512 → length pool₀ ≡ 9 → Released A u (getD head u 0) g count₀ pool₀ count₀ pool₀
+    released-none e h =
+        record { tall = e; wide = h; is = λ v _. omega (arith, sum-on L u (gone A u v) (gone-only u v) lu); keeps = λ _ _ k. k }
 
-  module _ {m : ℕ} {head next : List ℕ} (L : Linked (leave A) m head next) (count₀ : List ℕ) (u : ℕ) (lu : u < 512) where
-    pub lowered-none : length count₀ ≡ 512 → Lowered A u (getD head u 0) count₀ count₀
-    lowered-none e = record { tall = e; is = λ v _. omega (arith, sum-on L u (gone A u v) (gone-only u v) lu) }
-
-    pub lowered-room : (j b : ℕ) (count : List ℕ) → ((v : ℕ) → v < 512 → sumTo m (gone A u v) ≤ getD count₀ v 0)
-        → On (leave A) m u j → j < m → b ≡ A .to j → b < 512 → Lowered A u j count₀ count → (u ≡ b → ⊥) → 0 < getD count b 0
-    lowered-room j b count p o l k low r n =
+    pub released-room : (j b : ℕ) (count pool : List ℕ) → ((v : ℕ) → v < 512 → sumTo m (gone A u v) ≤ getD count₀ v 0)
+        → On (leave A) m u j → j < m → b ≡ A .to j → b < 512 → Released A u j g count₀ pool₀ count pool → (u ≡ b → ⊥) → 0 < getD count b 0
+    released-room j b count pool p o l k low r n =
         let q : 1 ≡ gone A u b j = rw (eq-eqb b b refl, ne-eqb u b n) at (gone-is u b j (leave-from A j (o .at l) lu) k) in
         omega (arith, r .is b low, p b low, sumTo-less (gone A u b) (j + 1) m (omega arith), sumTo-step j (gone A u b))
 
-    pub lowered-turn : (j b : ℕ) (count count′ : List ℕ) → On (leave A) m u j → j < m → b ≡ A .to j → length count′ ≡ 512
-        → ((v : ℕ) → v < 512 → getD count′ v 0 + when (eqb b v) (when (not (eqb u b)) 1) ≡ getD count v 0) → Lowered A u j count₀ count
-        → Lowered A u (getD next j 0) count₀ count′
-    lowered-turn j b count count′ o l k t d c =
+    pub released-turn : (j b : ℕ) (count pool count′ pool′ : List ℕ)
+        → On (leave A) m u j → j < m → b ≡ A .to j → TakenOff u b g count pool count′ pool′ → Released A u j g count₀ pool₀ count pool
+        → Released A u (getD next j 0) g count₀ pool₀ count′ pool′
+    released-turn j b count pool count′ pool′ o l k d c =
         record {
-          tall = t;
-          is = λ v lv. omega (arith, sum-next L u j _ _ (gone A u v) (gone-only u v) o l refl (gone-is u v j (leave-from A j (o .at l) lu) k), d v lv, c .is v lv);
+          tall = d .tall;
+          wide = d .wide;
+          is = λ v lv. omega (arith, sum-next L u j _ _ (gone A u v) (gone-only u v) o l refl (gone-is u v j (leave-from A j (o .at l) lu) k), d .is v lv, c .is v lv);
+          keeps = λ marks s h. d .keeps marks (λ v lv n. omega (arith, s v lv n, c .is v lv)) (c .keeps marks s h);
         }
-
-    module _ (pool₀ : List ℕ) (g : ℕ) where
-      pub released-none : length count₀ ≡ 512 → length pool₀ ≡ 9 → Released A u (getD head u 0) g count₀ pool₀ count₀ pool₀
-      released-none e h = record { lowered = lowered-none e; wide = h; keeps = λ _ _ k. k }
-
-      pub released-turn : (j b : ℕ) (count pool count′ pool′ : List ℕ)
-          → On (leave A) m u j → j < m → b ≡ A .to j → TakenOff u b g count pool count′ pool′ → Released A u j g count₀ pool₀ count pool
-          → Released A u (getD next j 0) g count₀ pool₀ count′ pool′
-      released-turn j b count pool count′ pool′ o l k d c =
-          record {
-            lowered = lowered-turn j b count count′ o l k (d .tall) (d .is) (c .lowered);
-            wide = d .wide;
-            keeps = λ marks s h. d .keeps marks (λ v lv n. omega (arith, s v lv n, c .lowered .is v lv)) (c .keeps marks s h);
-          }
 
   module _ (marks count : List ℕ) (C : Counted A marks count) where
     free-ready : (v : ℕ) → v < 512 → free marks count v ≡ ready A marks v
@@ -114,8 +98,9 @@ module _ (A : Arcs) where
     pub room : (u : ℕ) → getD marks u 0 ≡ 0 → u < length marks → (v : ℕ) → v < 512 → sumTo (A .count) (gone A u v) ≤ getD count v 0
     room u z l v lv = omega (arith, split u v z l lv)
 
-    pub counted-next : (u : ℕ) (count′ : List ℕ) → getD marks u 0 ≡ 0 → u < length marks → Lowered A u (A .count) count count′ → Counted A (set marks u 1) count′
-    counted-next u count′ z l R = record { tall = R .tall; is = λ v lv. omega (arith, split u v z l lv, R .is v lv) }
+    pub counted-next : (u g : ℕ) (pool count′ pool′ : List ℕ) → getD marks u 0 ≡ 0 → u < length marks
+        → Released A u (A .count) g count pool count′ pool′ → Counted A (set marks u 1) count′
+    counted-next u g pool count′ pool′ z l R = record { tall = R .tall; is = λ v lv. omega (arith, split u v z l lv, R .is v lv) }
 
   -- the order, one step at a time
   module _ (g n v : ℕ) (marks : List ℕ) where

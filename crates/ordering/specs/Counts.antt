@@ -46,15 +46,11 @@ pub record TakenOff (u b g : ℕ) (count pool count′ pool′ : List ℕ) : Typ
   pub is : (v : ℕ) → v < 512 → getD count′ v 0 + when (eqb b v) (when (not (eqb u b)) 1) ≡ getD count v 0
   pub keeps : (marks : List ℕ) → TakenFree marks count → Kept (openAt g marks count) pool → Kept (openAt g marks count′) pool′
 
--- the edges of u below j no longer count
-pub record Lowered (A : Arcs) (u j : ℕ) (count count′ : List ℕ) : Type 0 where
-  pub tall : length count′ ≡ 512
-  pub is : (v : ℕ) → v < 512 → getD count′ v 0 + sumTo j (gone A u v) ≡ getD count v 0
-
--- the same, and the pool of the open ones follows
+-- the edges of u below j no longer count, and the pool of the open ones follows
 pub record Released (A : Arcs) (u j g : ℕ) (count pool count′ pool′ : List ℕ) : Type 0 where
-  pub lowered : Lowered A u j count count′
+  pub tall : length count′ ≡ 512
   pub wide : length pool′ ≡ 9
+  pub is : (v : ℕ) → v < 512 → getD count′ v 0 + sumTo j (gone A u v) ≡ getD count v 0
   pub keeps : (marks : List ℕ) → TakenFree marks count → Kept (openAt g marks count) pool → Kept (openAt g marks count′) pool′
 
 pub record Across (A : Arcs) (j r : ℕ) : Type 0 where

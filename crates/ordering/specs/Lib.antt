@@ -1,4 +1,3 @@
 pub mod Counts
 pub mod Search
 pub mod Sweep
-pub mod Line

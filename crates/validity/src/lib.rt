@@ -362,7 +362,7 @@ fn check_edges(n: usize, starts: &[u16], ends: &[u16]) -> Checked
     if found.place < starts.len() {
         return refuse_repeat(found);
     }
-    check_cycle(ordering::find_cycle(starts, ends, n), n, found.tried)
+    check_cycle(cycle_test::find_cycle(starts, ends, n), n, found.tried)
 }
 
 // Checks 1 to 8. Where they pass, the topological order of the vertices is left in the front of `order`, their levels in `levels`,

@@ -64,7 +64,7 @@ order-by-spec =
     let z = not-taken _ _ _ _ _ (p .0) (v .4) e t in
     let S = settled-next _ _ _ _ _ (p .0) (v .4) e t (v .3) in
     let m = order-more _ _ _ _ _ h (first-is _ _ _ (v .2) _ _ (p .0) (first-open _ _ _ _ _ (p .0) (v .4) e t)) t in
-    (omega (arith, h), length-set (l .marks) _ 1 ∙ v .1, counted-next _ _ _ (v .2) _ _ z (omega (arith, v .1, p .0, t)) (R .lowered), (λ x l n. omega (arith, S x l n, R .lowered .is x l)), R .keeps _ S (rw (c .before .before .before .before .take .ensures) (taken-next _ _ _ _ _ (p .0) (v .4) e t (v .1))), wrote-turn (v .5) m (omega (arith, p .1, v .5 .same, h)), swept-turn _ _ h (wrote-next (v .5) m) (v .6) (c .release .ensures .1)))
+    (omega (arith, h), length-set (l .marks) _ 1 ∙ v .1, counted-next _ _ _ (v .2) _ _ _ _ _ z (omega (arith, v .1, p .0, t)) R, (λ x l n. omega (arith, S x l n, R .is x l)), R .keeps _ S (rw (c .before .before .before .before .take .ensures) (taken-next _ _ _ _ _ (p .0) (v .4) e t (v .1))), wrote-turn (v .5) m (omega (arith, p .1, v .5 .same, h)), swept-turn _ _ h (wrote-next (v .5) m) (v .6) (c .release .ensures .1)))
     (λ c. search needs)
     (λ c. let v = c .before .loop .inv in
     let p = c .before .before .before .before .before .before .before .before .before .before .before .pre .1 .1 in

@@ -1,5 +1,5 @@
 -- the edges of u below j no longer count, and have raised what they go to; the links lead past none of them
-use Rattle.ordering.proofs.Waiting.{lowered-room, released-none, released-turn}
+use Rattle.ordering.proofs.Waiting.{released-none, released-room, released-turn}
 use Rattle.ordering.proofs.Sweeps.{raised-none, raised-turn}
 use Rattle.ordering.specs.Counts.{Released}
 use Rattle.ordering.specs.Sweep.{Raised}
@@ -31,12 +31,12 @@ release-spec =
     (λ c. search needs)
     (λ c κs. search needs)
     (λ c. let p = c .before .before .before .before .before .pre in
-    (refl, rw (c .wide .ensures) (walk-on (p .1 .0) _ (p .1 .1 .0)), rw (c .wide .ensures) (released-none _ (p .1 .0) _ _ (p .1 .1 .0) _ _ (p .1 .1 .1 .0 .0) (p .1 .1 .1 .0 .1)), rw (c .wide .ensures) (raised-none _ (p .1 .0) (p .1 .1 .0) (p .1 .1 .1 .1 .1 .0))))
+    (refl, rw (c .wide .ensures) (walk-on (p .1 .0) _ (p .1 .1 .0)), rw (c .wide .ensures) (released-none _ (p .1 .0) _ _ _ _ (p .1 .1 .0) (p .1 .1 .1 .0 .0) (p .1 .1 .1 .0 .1)), rw (c .wide .ensures) (raised-none _ (p .1 .0) (p .1 .1 .0) (p .1 .1 .1 .1 .1 .0))))
     (λ c κs. search needs)
     (λ c κs. let p = c .before .before .before .before .before .before .before .before .before .before .pre in
     let l = c .before .before .before .before .loop in
     let k = c .before .before .end-at .ensures in
-    (k .low, (lowered-room _ (p .1 .0) _ _ (p .1 .1 .0) (l .j) _ _ (p .1 .1 .1 .1 .0) (l .inv .1) (c .before .before .before .loop-test .taken) (k .is) (k .low) (l .inv .2 .lowered), (l .inv .2 .lowered .tall, l .inv .2 .wide))))
+    (k .low, (released-room _ (p .1 .0) _ _ _ _ (p .1 .1 .0) (l .j) _ _ _ (p .1 .1 .1 .1 .0) (l .inv .1) (c .before .before .before .loop-test .taken) (k .is) (k .low) (l .inv .2), (l .inv .2 .tall, l .inv .2 .wide))))
     (λ c κs. c .before .before .before .before .end-at .ensures .low)
     (λ c. search needs)
     (λ c. search needs)
@@ -46,5 +46,5 @@ release-spec =
     let l = c .before .before .before .before .before .before .before .before .before .loop in
     let t = c .before .before .before .before .before .before .before .before .loop-test .taken in
     let k = c .before .before .before .before .before .before .before .end-at .ensures in
-    (refl, rw (c .wide2 .ensures) (walk-next (p .1 .0) _ _ (l .inv .1) t), rw (c .wide2 .ensures) (released-turn _ (p .1 .0) _ _ (p .1 .1 .0) _ _ (l .j) _ _ _ _ _ (l .inv .1) t (k .is) (c .before .before .before .before .pass .ensures) (l .inv .2)), rw (c .wide2 .ensures, c .before .before .lift .ensures) (raised-turn _ (p .1 .0) (p .1 .1 .0) refl (l .inv .1) t (k .is) (k .low) (l .inv .3))))
+    (refl, rw (c .wide2 .ensures) (walk-next (p .1 .0) _ _ (l .inv .1) t), rw (c .wide2 .ensures) (released-turn _ (p .1 .0) _ _ _ _ (p .1 .1 .0) (l .j) _ _ _ _ _ (l .inv .1) t (k .is) (c .before .before .before .before .pass .ensures) (l .inv .2)), rw (c .wide2 .ensures, c .before .before .lift .ensures) (raised-turn _ (p .1 .0) (p .1 .1 .0) refl (l .inv .1) t (k .is) (k .low) (l .inv .3))))
     (λ c. let l = c .before .loop in let e = on-end (l .inv .1) (c .loop-test .left) in (rw e at (l .inv .2), rw e at (l .inv .3))))

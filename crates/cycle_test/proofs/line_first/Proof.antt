@@ -1,14 +1,14 @@
--- what is in the queue waits for nothing
-use Rattle.ordering.proofs.Lines.{lined-none}
-use Rattle.ordering.specs.Line.{Lined}
+-- what is in the queue are clusters
+use Rattle.cycle_test.proofs.Guesses.{lined-none}
+use Rattle.cycle_test.specs.Guess.{Lined}
 use native.Mathlib.Omega.{arith}
 use Prim.Native.Nat.{_≤_, _-_}
 use borrow.Author.Needs.{needs}
-use Rattle.ordering.proofs.line_first.Statement.{statement}
-use Rattle.ordering.proofs.line_first.Tie as tie
+use Rattle.cycle_test.proofs.line_first.Statement.{statement}
+use Rattle.cycle_test.proofs.line_first.Tie as tie
 
 abbrev Inv-loop : tie.InvT-loop
-Inv-loop count g queue₀ t₀ i₀ queue t i = (i ≤ g) × Lined count queue t
+Inv-loop count g queue₀ t₀ i₀ queue t i = (i ≤ g) × Lined queue t
 
 abbrev μ-loop : tie.MeasureT-loop
 μ-loop count g queue₀ t₀ i₀ queue t i = g - i
@@ -18,6 +18,8 @@ line-first-spec =
     tie.close
     (tie.spec Inv-loop μ-loop
     (λ c. (omega arith, lined-none (c .pre .1)))
+    (λ c. search needs)
+    (λ c. search needs)
     (λ c κs. search needs)
     (λ c. search needs)
     (λ c. search needs)
