@@ -1,6 +1,6 @@
 -- A cycle goes through no cluster that no edge enters, and through none that no edge leaves.
 use Prim.Native.Nat.{ℕ, _+_, _≤_, _<_}
-use mathlib.Core.Path.{_≡_, refl, sym, ap, _∙_}
+use mathlib.Core.Path.{_≡_, sym, ap, _∙_}
 use mathlib.Core.List.{List}
 use native.Mathlib.Omega.{arith}
 use lib.ListN.{length, getD, take, set, length-set, length-take}
@@ -8,9 +8,9 @@ use lib.Seq.{getD-set-same, getD-set-other, getD-take}
 use Rattle.folds.proofs.Cases.{either, eq-or-ne}
 use Rattle.graph.specs.Walk.{Walk, one, more, Acyclic, Cycle}
 use Rattle.graph.specs.Graph.{Arcs, joining, Edge}
-use Rattle.graph.specs.Links.{Named, Ended}
+use Rattle.graph.specs.Links.{Named}
 use Rattle.graph.proofs.Edges.{edge-arc, arc-edge, edge-other}
-use Rattle.cycle_test.specs.Thin.{Touched, Kept, Thinned}
+use Rattle.cycle_test.specs.Thin.{Touched, Retained, Thinned}
 
 -- a mark, and the marks that were there
 mark-at : (l : List ℕ) (a : ℕ) → a < length l → 0 < getD (set l a 1) a 0
@@ -42,12 +42,12 @@ module _ (A : Arcs) where
   touched-end {j = j} {m = m} p q T = let e : j ≡ m = omega arith in rw e at T
 
 module _ (A : Arcs) (left entered : List ℕ) where
-  pub kept-none : {from to : List ℕ} → length from ≡ 1024 → length to ≡ 1024 → Kept A left entered 0 from to 0
-  kept-none e f = record { long = (e, f); few = omega arith; low = λ i l. absurd (omega arith); kept = λ i l. absurd (omega arith) }
+  pub retained-none : {from to : List ℕ} → length from ≡ 1024 → length to ≡ 1024 → Retained A left entered 0 from to 0
+  retained-none e f = record { long = (e, f); few = omega arith; low = λ i l. absurd (omega arith); kept = λ i l. absurd (omega arith) }
 
-  pub kept-next : {j a b r t : ℕ} {from to : List ℕ} → j < 1024 → a ≡ A .from j → b ≡ A .to j → a < 512 → b < 512
-      → r ≤ 1 → (0 < getD entered a 0 → 0 < getD left b 0 → r ≡ 1) → Kept A left entered j from to t → Kept A left entered (j + 1) (set from t a) (set to t b) (t + r)
-  kept-next {j} {a} {b} {r} {t} {from} {to} lj ea eb la lb lr sure K =
+  pub retained-next : {j a b r t : ℕ} {from to : List ℕ} → j < 1024 → a ≡ A .from j → b ≡ A .to j → a < 512 → b < 512
+      → r ≤ 1 → (0 < getD entered a 0 → 0 < getD left b 0 → r ≡ 1) → Retained A left entered j from to t → Retained A left entered (j + 1) (set from t a) (set to t b) (t + r)
+  retained-next {j} {a} {b} {r} {t} {from} {to} lj ea eb la lb lr sure K =
       record {
         long = (length-set from t a ∙ K .long .0, length-set to t b ∙ K .long .1);
         few = omega (arith, K .few);
@@ -77,8 +77,8 @@ module _ (A : Arcs) (left entered : List ℕ) where
           let (h, lh, fa, tb) = K .kept i l he hl in
           (h, omega arith, getD-set-other from t h a 0 (λ q. omega arith) ∙ fa, getD-set-other to t h b 0 (λ q. omega arith) ∙ tb)
 
-  pub kept-end : {from to : List ℕ} {j m t : ℕ} → j ≤ m → m ≤ j → Kept A left entered j from to t → Kept A left entered m from to t
-  kept-end {j = j} {m = m} p q K = let e : j ≡ m = omega arith in rw e at K
+  pub retained-end : {from to : List ℕ} {j m t : ℕ} → j ≤ m → m ≤ j → Retained A left entered j from to t → Retained A left entered m from to t
+  retained-end {j = j} {m = m} p q K = let e : j ≡ m = omega arith in rw e at K
 
 module _ (A B : Arcs) (left entered : List ℕ) (T : Touched A (A .count) left entered)
     (kept : (i : ℕ) → i < A .count → 0 < getD entered (A .from i) 0 → 0 < getD left (A .to i) 0
@@ -114,7 +114,7 @@ module _ (A B : Arcs) (left entered : List ℕ) (T : Touched A (A .count) left e
 
 -- the whole list was gone through
 pub thinned : {starts ends left entered from to : List ℕ} {t : ℕ} → length starts ≤ 1024 → Touched (joining starts ends) (length starts) left entered
-    → Kept (joining starts ends) left entered (length starts) from to t → Thinned starts ends from to t
+    → Retained (joining starts ends) left entered (length starts) from to t → Thinned starts ends from to t
 thinned {starts} {ends} {left} {entered} {from} {to} {t} m T K =
     record {
       few = K .few;

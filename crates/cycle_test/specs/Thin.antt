@@ -14,7 +14,7 @@ pub record Touched (A : Arcs) (j : ℕ) (left entered : List ℕ) : Type 0 where
   pub enters : (i : ℕ) → i < j → 0 < getD entered (A .to i) 0
 
 -- of the first j edges, those from an entered cluster to a left one are among the t in the front of `from` and `to`
-pub record Kept (A : Arcs) (left entered : List ℕ) (j : ℕ) (from to : List ℕ) (t : ℕ) : Type 0 where
+pub record Retained (A : Arcs) (left entered : List ℕ) (j : ℕ) (from to : List ℕ) (t : ℕ) : Type 0 where
   pub long : (length from ≡ 1024) × (length to ≡ 1024)
   pub few : t ≤ j
   pub low : (i : ℕ) → i < t → (getD from i 0 < 512) × (getD to i 0 < 512)

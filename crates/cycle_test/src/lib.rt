@@ -72,7 +72,7 @@ fn both(x: u8, y: u8) -> usize
     1
 }
 
-// Whether thinning would leave more than three in four of some edges, 64 at most and spread over all.
+// Whether thinning would leave more than three in four of some edges, 64 at most and spread over all. It decides what is tried next, not what is found.
 fn is_thick(starts: &[u16], ends: &[u16], left: &[u8; 512], entered: &[u8; 512]) -> bool
     requires { ⌜ Ended (now starts) (now ends) ⌝ }
     ensures { λ r. ⌜ (r ≡ true → 0 < length (now (starts .entry))) ⌝ }
@@ -277,7 +277,7 @@ fn is_free(starts: &[u16], ends: &[u16], g: usize) -> bool
     is_free(&from[..q], &to[..q], g)
 }
 
-// The lowest of g clusters that lies on a cycle, or g.
+// The lowest of g clusters that lies on a cycle, or g: searched for only where the edges are not seen to form none.
 pub fn find_cycle(starts: &[u16], ends: &[u16], g: usize) -> usize
     requires { ⌜ Ended (now starts) (now ends) ⌝ }
     requires { ⌜ Inside (joining (now starts) (now ends)) g ⌝ }

@@ -27,7 +27,7 @@ use Rattle.validity.specs.declared.Cause.{Cause}
 use Rattle.validity.specs.declared.Verdict.{Verdict}
 use Rattle.validity.specs.declared.Verdict.the-variants.{Passed, Refused}
 use Rattle.validity.proofs.Checks.{lists-early}
-use Rattle.validity.specs.Words.{WordsRoom, wordOf, isBit, BitsSet, Next}
+use Rattle.validity.specs.Words.{WordsRoom, wordOf, isBit, BitsSet, Trying}
 
 -- a search that found none so far goes on to an edge that it tries
 pub tries-next : (m j : ℕ) (p : ℕ → Bool) → firstTo j p ≡ j → j < m → j < tried (firstTo m p) m
@@ -46,7 +46,7 @@ tried-le place m = by (ltb place m) (λ t. rw t (omega (arith, ltb-true place m 
 tried-there : (starts ends : List ℕ) {j : ℕ} → j < triedOf starts ends → j < length starts
 tried-there starts ends h = omega (arith, tried-le (firstRepeat starts ends) (length starts))
 
-pub next-there : {starts ends words : List ℕ} {stride j : ℕ} → Next starts ends stride j words → j < length starts
+pub next-there : {starts ends words : List ℕ} {stride j : ℕ} → Trying starts ends stride j words → j < length starts
 next-there {starts = starts} {ends = ends} N = tried-there starts ends (N .next)
 
 -- what a verdict of checks 7 and 8 tells is what the search tried

@@ -29,7 +29,7 @@ pub record BitsSet (starts ends : List ℕ) (stride j : ℕ) (words : List ℕ) 
   pub is : (w : ℕ) → getD words w 0 ≡ word 64 (λ i. anyTo j (isBit starts ends stride w i))
 
 -- edge j comes next: it is one of those that the search tries
-pub record Next (starts ends : List ℕ) (stride j : ℕ) (words : List ℕ) : Type 0 where
+pub record Trying (starts ends : List ℕ) (stride j : ℕ) (words : List ℕ) : Type 0 where
   pub room : WordsRoom starts ends stride (length words)
   pub bits : BitsSet starts ends stride j words
   pub next : j < triedOf starts ends

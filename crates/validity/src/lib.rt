@@ -8,7 +8,7 @@ ghost use Rattle.folds.specs.Fold.{when, countTo, firstTo};
 ghost use Rattle.graph.specs.Graph.{graphOf};
 ghost use Rattle.validity.specs.Cause.{numberOf};
 ghost use Rattle.validity.specs.Repeat.{Found, triedOf};
-ghost use Rattle.validity.specs.Words.{WordsRoom, Next, Tried};
+ghost use Rattle.validity.specs.Words.{WordsRoom, Trying, Tried};
 ghost use Rattle.validity.specs.Drawn.{checkedWith, checkOf};
 ghost use Rattle.validity.specs.declared.Cause.the-variants.{Repeat, Cycle};
 ghost use Rattle.validity.specs.declared.Verdict.the-variants.{Passed, Refused};
@@ -214,7 +214,7 @@ fn bad_end(n: usize, starts: &[u16], ends: &[u16], widths: &[u16]) -> usize
 
 // Tries edge j as a repeat of an earlier one: whether its bit is set already, bit ends[j] % 64 of word starts[j] * stride + ends[j] / 64.
 fn try_edge(starts: &[u16], ends: &[u16], j: usize, stride: usize, seen: &mut [u64]) -> bool
-    requires { ⌜ Next (now starts) (now ends) stride j (now seen) ⌝ }
+    requires { ⌜ Trying (now starts) (now ends) stride j (now seen) ⌝ }
     ensures { λ r. ⌜ r ≡ repeats (now (starts .entry)) (now (ends .entry)) j ⌝ }
     ensures { λ _. ⌜ Tried (now (starts .entry)) (now (ends .entry)) stride j (now (seen .entry)) (now (seen .exit)) ⌝ }
 {

@@ -1,8 +1,7 @@
 -- By recursion on the edges that are left: where these form no cycle, none do.
 use borrow.Author.Needs.{needs}
-use native.Mathlib.Omega.{arith}
 use lib.ListN.{length}
-use mathlib.Core.Path.{sym, refl}
+use mathlib.Core.Path.{sym}
 use Prim.Native.Nat.{ℕ, _<_}
 use borrow.Fn.Kinds.{In}
 use borrow.Fn.PlainCycle.{Measures, is, falls, and}
