@@ -10,7 +10,7 @@ use borrow.Author.Tests.{eqb-true, eq-eqb, ltb-false, leb-false, lt-ltb, le-ltb}
 use Rattle.folds.specs.Fold.{pick, when, countTo, firstTo, anyTo, over, zeros}
 use Rattle.folds.proofs.Cases.{by, no-bool, not-no, not-yes}
 use Rattle.folds.proofs.Sums.{sumTo-zero, sumTo-turn}
-use Rattle.folds.proofs.Searches.{firstTo-le, firstTo-none, count-none}
+use Rattle.folds.proofs.Searches.{firstTo-le, firstTo-more, firstTo-at, firstTo-none, count-none}
 use Rattle.graph.specs.Graph.{Graph, vertices, edges, identity, Arcs, arcs, joining, Inside}
 use Rattle.graph.specs.Links.{Ended, Linked, leave}
 use Rattle.graph.proofs.Edges.{joining-is}
@@ -25,17 +25,31 @@ use Rattle.validity.specs.declared.Cause.the-variants.{Vertices, Parts, 
 use Rattle.validity.specs.declared.Verdict.{Verdict}
 use Rattle.validity.specs.declared.Verdict.the-variants.{Passed, Refused}
 
--- a loop that counts the edges that check 6 refuses
-module _ (n : ℕ) (starts ends widths : List ℕ) where
-  pub faults-none : 0 ≡ countTo 0 (badEnds n starts ends widths)
+-- a loop that counts what a check refuses
+module _ (p : ℕ → Bool) where
+  pub faults-none : 0 ≡ countTo 0 p
   unfolding countTo
   faults-none = sym (sumTo-zero _)
 
-  pub faults-turn : (j : ℕ) {s x : ℕ} → s ≡ countTo j (badEnds n starts ends widths)
-      → x ≡ when (leb n (getD starts j 0) || (leb n (getD ends j 0) || (eqb (getD starts j 0) (getD ends j 0) || eqb (getD widths j 0) 0))) 1
-      → s + x ≡ countTo (j + 1) (badEnds n starts ends widths)
-  unfolding countTo badEnds
-  faults-turn j e h = sumTo-turn (λ k. when (badEnds n starts ends widths k) 1) e h
+  pub faults-turn : (j : ℕ) {s x : ℕ} → s ≡ countTo j p → x ≡ when (p j) 1 → s + x ≡ countTo (j + 1) p
+  unfolding countTo
+  faults-turn j e h = sumTo-turn (λ k. when (p k) 1) e h
+
+-- a loop that stops at the first: 1 for a fault, else 0
+fault-is : {x : ℕ} (b : Bool) → x ≡ when b 1 → x ≡ 1 → b ≡ true
+fault-is true e q = refl
+fault-is false e q = absurd (omega arith)
+
+fault-not : {x : ℕ} (b : Bool) → x ≡ when b 1 → (x ≡ 1 → ⊥) → b ≡ false
+fault-not true e q = absurd (q e)
+fault-not false e q = refl
+
+module _ (p : ℕ → Bool) where
+  pub fault-here : {n i x : ℕ} → firstTo i p ≡ i → x ≡ when (p i) 1 → x ≡ 1 → i < n → i ≡ firstTo n p
+  fault-here {n} {i} e h q l = firstTo-at n i p e (fault-is (p i) h q) l
+
+  pub fault-later : {i x : ℕ} → firstTo i p ≡ i → x ≡ when (p i) 1 → (x ≡ 1 → ⊥) → firstTo (i + 1) p ≡ i + 1
+  fault-later {i} e h q = firstTo-more i p e (fault-not (p i) h q)
 
 -- where none has p, the search goes to the end
 pub none-first : {n c : ℕ} (p : ℕ → Bool) → c ≡ countTo n p → c ≡ 0 → n ≡ firstTo n p

@@ -3,7 +3,7 @@ ghost use mathlib.Core.Path.{_≡_};
 ghost use Prim.Native.Nat.{ℕ, _<_, _≤_};
 ghost use lib.ListN.{length, getD};
 ghost use mathlib.Core.Bool.{_||_};
-ghost use lib.Dec.{eqb, leb};
+ghost use lib.Dec.{eqb, ltb, leb};
 ghost use Rattle.folds.specs.Fold.{when, countTo, firstTo};
 ghost use Rattle.graph.specs.Graph.{graphOf};
 ghost use Rattle.validity.specs.Cause.{numberOf};
@@ -109,24 +109,40 @@ fn bad_edges(starts: usize, ends: usize, widths: usize) -> bool
     1024 < starts
 }
 
-fn is_bad_cost(costs: &[u16], bound: u32, v: usize) -> bool
-    requires { ⌜ v < length (now costs) ⌝ }
-    ensures { λ r. ⌜ r ≡ badCost (now (costs .entry)) bound v ⌝ }
+// 1 where check 5 refuses a cost, else 0: a number, so that a loop can take many costs at once.
+fn cost_fault(cost: u16, bound: u32) -> u16
+    ensures { λ r. ⌜ (r ≡ when (eqb cost 0 || ltb bound cost) 1) × (r ≤ 1) ⌝ }
 {
-    let cost = costs[v];
     if cost == 0 {
-        return true;
+        return 1;
     }
-    bound < cost as u32
+    if bound < cost as u32 {
+        return 1;
+    }
+    0
 }
 
-// The lowest vertex that check 5 refuses, or how many there are.
-fn bad_cost(costs: &[u16], bound: u32) -> usize
+// How many vertices check 5 refuses.
+fn cost_faults(costs: &[u16], bound: u32) -> u16
+    requires { ⌜ length (now costs) ≤ 512 ⌝ }
+    ensures { λ r. ⌜ r ≡ countTo (length (now (costs .entry))) (badCost (now (costs .entry)) bound) ⌝ }
+{
+    let mut sum: u16 = 0;
+    let mut v: usize = 0;
+    while v < costs.len() {
+        sum += cost_fault(costs[v], bound);
+        v += 1;
+    }
+    sum
+}
+
+// The lowest vertex that check 5 refuses, or how many there are, one after the other.
+fn first_cost_fault(costs: &[u16], bound: u32) -> usize
     ensures { λ r. ⌜ r ≡ firstTo (length (now (costs .entry))) (badCost (now (costs .entry)) bound) ⌝ }
 {
     let mut v: usize = 0;
     while v < costs.len() {
-        if is_bad_cost(costs, bound, v) {
+        if cost_fault(costs[v], bound) == 1 {
             return v;
         }
         v += 1;
@@ -134,23 +150,15 @@ fn bad_cost(costs: &[u16], bound: u32) -> usize
     v
 }
 
-fn is_bad_end(n: usize, starts: &[u16], ends: &[u16], widths: &[u16], j: usize) -> bool
-    requires { ⌜ j < length (now starts) ⌝ }
-    requires { ⌜ (length (now ends) ≡ length (now starts)) × (length (now widths) ≡ length (now starts)) ⌝ }
-    ensures { λ r. ⌜ r ≡ badEnds n (now (starts .entry)) (now (ends .entry)) (now (widths .entry)) j ⌝ }
+// The lowest vertex that check 5 refuses, or how many there are: looked for only where there is one.
+fn bad_cost(costs: &[u16], bound: u32) -> usize
+    requires { ⌜ length (now costs) ≤ 512 ⌝ }
+    ensures { λ r. ⌜ r ≡ firstTo (length (now (costs .entry))) (badCost (now (costs .entry)) bound) ⌝ }
 {
-    let a = folds::at16(starts, j);
-    if n <= a {
-        return true;
+    if cost_faults(costs, bound) == 0 {
+        return costs.len();
     }
-    let b = folds::at16(ends, j);
-    if n <= b {
-        return true;
-    }
-    if a == b {
-        return true;
-    }
-    folds::at16(widths, j) == 0
+    first_cost_fault(costs, bound)
 }
 
 // 1 where check 6 refuses an edge from a to b of width w, else 0. All three are read before: a loop can then take many edges at once.
@@ -187,13 +195,13 @@ fn faults(n: u16, starts: &[u16], ends: &[u16], widths: &[u16]) -> u16
 }
 
 // The lowest edge that check 6 refuses, or how many there are, one after the other.
-fn first_fault(n: usize, starts: &[u16], ends: &[u16], widths: &[u16]) -> usize
+fn first_fault(n: u16, starts: &[u16], ends: &[u16], widths: &[u16]) -> usize
     requires { ⌜ (length (now ends) ≡ length (now starts)) × (length (now widths) ≡ length (now starts)) ⌝ }
     ensures { λ r. ⌜ r ≡ firstTo (length (now (starts .entry))) (badEnds n (now (starts .entry)) (now (ends .entry)) (now (widths .entry))) ⌝ }
 {
     let mut j: usize = 0;
     while j < starts.len() {
-        if is_bad_end(n, starts, ends, widths, j) {
+        if fault(n, starts[j], ends[j], widths[j]) == 1 {
             return j;
         }
         j += 1;
@@ -209,7 +217,7 @@ fn bad_end(n: usize, starts: &[u16], ends: &[u16], widths: &[u16]) -> usize
     if faults(n as u16, starts, ends, widths) == 0 {
         return starts.len();
     }
-    first_fault(n, starts, ends, widths)
+    first_fault(n as u16, starts, ends, widths)
 }
 
 // Tries edge j as a repeat of an earlier one: whether its bit is set already, bit ends[j] % 64 of word starts[j] * stride + ends[j] / 64.

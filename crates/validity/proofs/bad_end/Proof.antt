@@ -11,5 +11,6 @@ bad-end-spec =
     (λ c. omega (arith, c .before .before .before .pre .3))
     (λ c κs. let p = c .before .before .before .pre in (p .0, p .1, p .2))
     (λ c. none-first _ (c .before .faults .ensures) (c .if1 .taken))
+    (λ c. omega (arith, c .before .before .before .before .before .pre .3))
     (λ c κs. let p = c .before .before .before .before .before .pre in (p .0, p .1))
     (λ c. c .first-fault .ensures))

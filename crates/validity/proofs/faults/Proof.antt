@@ -17,10 +17,11 @@ abbrev μ-loop : tie.MeasureT-loop
 μ-loop n starts ends widths sum₀ j₀ sum j = length starts - j
 
 pub faults-spec : {M : Type 1} → statement M
+unfolding badEnds
 faults-spec =
     tie.close
     (tie.spec Inv-loop μ-loop
-    (λ c. (omega arith, omega arith, faults-none _ _ _ _))
+    (λ c. (omega arith, omega arith, faults-none _))
     (λ c. search needs)
     (λ c. search needs)
     (λ c. search needs)
@@ -31,5 +32,5 @@ faults-spec =
     (λ c. omega (arith, c .fault .ensures .1, c .before .before .before .before .before .before .before .before .before .pre .2))
     (λ c. search needs)
     (λ c. search needs)
-    (λ c. let w = c .before .before .before .before .before .loop .inv in (omega arith, omega (arith, c .fault .ensures .1), faults-turn _ _ _ _ _ (w .2) (c .fault .ensures .0)))
+    (λ c. let w = c .before .before .before .before .before .loop .inv in (omega arith, omega (arith, c .fault .ensures .1), faults-turn _ _ (w .2) (c .fault .ensures .0)))
     (λ c. let w = c .before .loop in let e : w .j ≡ length (c .before .before .before .before .before .args .starts .now) = omega (arith, w .inv .0) in rw e at (w .inv .2)))
