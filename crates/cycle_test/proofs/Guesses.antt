@@ -1,4 +1,4 @@
--- Numbers that rise along every edge rule cycles out; the queue holds clusters.
+-- Numbers that rise along every edge rule cycles out; each list of edges leads on.
 use Prim.Native.Nat.{ℕ, _+_, _-_, _≤_, _<_}
 use mathlib.Core.Path.{_≡_, refl, ap, _∙_}
 use mathlib.Core.List.{List}
@@ -10,7 +10,7 @@ use Rattle.graph.specs.Walk.{Acyclic}
 use Rattle.graph.specs.Graph.{joining, Edge}
 use Rattle.graph.proofs.Walks.{rank-law}
 use Rattle.graph.proofs.Edges.{edge-arc}
-use Rattle.cycle_test.specs.Guess.{Filling, Lined}
+use Rattle.cycle_test.specs.Guess.{Filling}
 
 module _ (starts ends : List ℕ) where
   pub ranks-free : (φ : ℕ → ℕ) → ((j : ℕ) → j < length starts → φ (getD starts j 0) < φ (getD ends j 0)) → Acyclic (Edge (joining starts ends))
@@ -40,19 +40,4 @@ filling-down {m} {j} {a} {head} {next} p lj la F =
           either (eq-or-ne i (j - 1))
           (λ q. rw (q, getD-set-same next (j - 1) (getD head a 0) 0 (omega (arith, F .long))) (omega (arith, F .heads a la)))
           (λ n. rw (getD-set-other next (j - 1) i (getD head a 0) 0 n) (F .later i (omega arith) h));
-    }
-
--- the queue
-pub lined-none : {queue : List ℕ} → length queue ≡ 512 → Lined queue 0
-lined-none e = record { long = e; few = omega arith; low = λ i l. absurd (omega arith) }
-
-pub lined-more : {queue : List ℕ} {t b r : ℕ} → Lined queue t → t < 512 → b < 512 → r ≤ 1 → Lined (set queue t b) (t + r)
-lined-more {queue} {t} {b} {r} Q lt lb lr =
-    record {
-      long = length-set queue t b ∙ Q .long;
-      few = omega arith;
-      low = λ i l.
-          either (eq-or-ne i t)
-          (λ q. rw (q, getD-set-same queue t b 0 (omega (arith, Q .long))) lb)
-          (λ n. rw (getD-set-other queue t i b 0 n) (Q .low i (omega arith)));
     }

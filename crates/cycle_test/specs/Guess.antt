@@ -16,8 +16,7 @@ pub record Filling (m j : ℕ) (head next : List ℕ) : Type 0 where
   pub heads : (v : ℕ) → v < 512 → j ≤ getD head v 0
   pub later : (i : ℕ) → j ≤ i → i < m → i < getD next i 0
 
--- the first t entries are clusters
+-- the queue holds t lists
 pub record Lined (queue : List ℕ) (t : ℕ) : Type 0 where
   pub long : length queue ≡ 512
   pub few : t ≤ 512
-  pub low : (i : ℕ) → i < t → getD queue i 0 < 512

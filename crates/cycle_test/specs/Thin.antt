@@ -1,30 +1,51 @@
--- Leaving out edges that no cycle goes through: those from a cluster that none enters, or to one that none leaves.
-use Prim.Native.Nat.{ℕ, _≤_, _<_}
+-- Leaving out edges that no cycle goes through: those to a cluster that none leaves.
+use Prim.Native.Nat.{ℕ, _+_, _≤_, _<_}
 use mathlib.Core.Path.{_≡_}
 use mathlib.Core.List.{List}
-use lib.ListN.{length, getD, take}
+use lib.ListN.{length, getD, set, take}
 use Rattle.graph.specs.Walk.{Acyclic}
-use Rattle.graph.specs.Graph.{Arcs, joining, Edge}
-use Rattle.graph.specs.Links.{Ended}
+use Rattle.graph.specs.Graph.{joining, Edge}
 
--- what the first j edges leave and what they enter is marked
-pub record Touched (A : Arcs) (j : ℕ) (left entered : List ℕ) : Type 0 where
-  pub tall : (length left ≡ 512) × (length entered ≡ 512)
-  pub leaves : (i : ℕ) → i < j → 0 < getD left (A .from i) 0
-  pub enters : (i : ℕ) → i < j → 0 < getD entered (A .to i) 0
+-- the first q entries are clusters
+pub record Clusters (list : List ℕ) (q : ℕ) : Type 0 where
+  pub room : q ≤ length list
+  pub few : q ≤ 1024
+  pub low : (i : ℕ) → i < q → getD list i 0 < 512
 
--- of the first j edges, those from an entered cluster to a left one are among the t in the front of `from` and `to`
-pub record Retained (A : Arcs) (left entered : List ℕ) (j : ℕ) (from to : List ℕ) (t : ℕ) : Type 0 where
+-- with a step of 1, what the first j edges leave is marked
+pub record Marked (starts : List ℕ) (step j : ℕ) (left : List ℕ) : Type 0 where
+  pub tall : length left ≡ 512
+  pub leaves : step ≡ 1 → (i : ℕ) → i < j → 0 < getD left (getD starts i 0) 0
+
+-- q edges, in lists of 1,024 entries
+pub record Held (from to : List ℕ) (q : ℕ) : Type 0 where
   pub long : (length from ≡ 1024) × (length to ≡ 1024)
-  pub few : t ≤ j
-  pub low : (i : ℕ) → i < t → (getD from i 0 < 512) × (getD to i 0 < 512)
-  pub kept : (i : ℕ) → i < j → 0 < getD entered (A .from i) 0 → 0 < getD left (A .to i) 0
-      → (h : ℕ) × (h < t) × (getD from h 0 ≡ A .from i) × (getD to h 0 ≡ A .to i)
+  pub starts : Clusters from q
+  pub ends : Clusters to q
 
--- where the q edges that are left form no cycle, none do
-pub record Thinned (starts ends from to : List ℕ) (q : ℕ) : Type 0 where
-  pub few : q ≤ length starts
-  pub room : (q ≤ length from) × (q ≤ length to)
-  pub long : (length (take q from) ≡ q) × (length (take q to) ≡ q)
-  pub ended : Ended (take q from) (take q to)
-  pub free : Acyclic (Edge (joining (take q from) (take q to))) → Acyclic (Edge (joining starts ends))
+-- the edge from a to b stands at place t if the mark is set; else the lists are as they were
+pub record Kept (mark a b : ℕ) (from to : List ℕ) (t : ℕ) (from′ to′ : List ℕ) (r : ℕ) : Type 0 where
+  pub passed : mark ≡ 0 → (r ≡ t) × (from′ ≡ from) × (to′ ≡ to)
+  pub stored : 0 < mark → (r ≡ t + 1) × (from′ ≡ set from t a) × (to′ ≡ set to t b)
+
+-- of the first j edges, those to a marked cluster are among the t in the front of the lists; those from j on stand where they stood
+pub record Sifting (left from to : List ℕ) (j : ℕ) (from′ to′ : List ℕ) (t : ℕ) : Type 0 where
+  pub held : Held from′ to′ t
+  pub few : t ≤ j
+  pub rest : (i : ℕ) → j ≤ i → (getD from′ i 0 ≡ getD from i 0) × (getD to′ i 0 ≡ getD to i 0)
+  pub kept : (i : ℕ) → i < j → 0 < getD left (getD to i 0) 0 → (h : ℕ) × (h < t) × (getD from′ h 0 ≡ getD from i 0) × (getD to′ h 0 ≡ getD to i 0)
+
+-- the first q edges form no cycle
+abbrev pub Free : List ℕ → List ℕ → ℕ → Type 0
+Free from to q = Acyclic (Edge (joining (take q from) (take q to)))
+
+-- where the r edges that are left form no cycle, none of the q do
+pub record Thinned (from to : List ℕ) (q : ℕ) (from′ to′ : List ℕ) (r : ℕ) : Type 0 where
+  pub held : Held from′ to′ r
+  pub few : r ≤ q
+  pub free : Free from′ to′ r → Free from to q
+
+-- where the r edges that are left form no cycle, none do
+pub record Rest (starts ends from to : List ℕ) (r : ℕ) : Type 0 where
+  pub held : Held from to r
+  pub free : Free from to r → Acyclic (Edge (joining starts ends))

@@ -2,12 +2,12 @@
 ghost use mathlib.Core.Path.{_≡_};
 ghost use mathlib.Core.Bool.{true};
 ghost use Prim.Native.Nat.{_<_, _≤_};
-ghost use lib.ListN.{length};
+ghost use lib.ListN.{length, take};
 ghost use Rattle.graph.specs.Walk.{Acyclic};
 ghost use Rattle.graph.specs.Graph.{joining, Edge, Inside};
 ghost use Rattle.graph.specs.Links.{Named, Ended};
 ghost use Rattle.topology.specs.Reach.{lowestOnCycle};
-ghost use Rattle.cycle_test.specs.Thin.{Touched, Thinned};
+ghost use Rattle.cycle_test.specs.Thin.{Clusters, Marked, Held, Kept, Sifting, Thinned, Rest};
 ghost use Rattle.cycle_test.specs.Guess.{Onward, Lined};
 
 // Whether every edge goes up in number: then they form no cycle.
@@ -42,80 +42,114 @@ fn rises_by(rank: &[u16; 512], starts: &[u16], ends: &[u16]) -> bool
     true
 }
 
-// Marks what edges leave and what they enter.
-fn touch(starts: &[u16], ends: &[u16], left: &mut [u8; 512], entered: &mut [u8; 512])
-    requires { ⌜ Ended (now starts) (now ends) ⌝ }
-    ensures { λ _. ⌜ Touched (joining (now (starts .entry)) (now (ends .entry))) (length (now (starts .entry))) (now (left .exit)) (now (entered .exit)) ⌝ }
+// Marks what every step-th of the first q edges leaves.
+fn mark(starts: &[u16], q: usize, step: usize, left: &mut [u8; 512])
+    requires { ⌜ Clusters (now starts) q ⌝ }
+    requires { ⌜ (1 ≤ step) × (step ≤ 1024) ⌝ }
+    ensures { λ _. ⌜ Marked (now (starts .entry)) step q (now (left .exit)) ⌝ }
 {
     *left = [0; 512];
-    *entered = [0; 512];
     let mut j: usize = 0;
-    while j < starts.len() {
-        let a = graph::end_at(starts, j);
-        let b = graph::end_at(ends, j);
+    while j < q {
+        let a = folds::at16(starts, j);
         left[a] = 1;
-        entered[b] = 1;
-        j += 1;
+        j += step;
     }
 }
 
-// 1 where both marks are set, else 0: a number, so that a list grows without a branch.
-fn both(x: u8, y: u8) -> usize
-    ensures { λ r. ⌜ (r ≤ 1) × (0 < x → 0 < y → r ≡ 1) ⌝ }
+// 1 for a mark, else 0: a number, so that a count needs no branch.
+fn one_if(x: u8) -> usize
+    ensures { λ r. ⌜ r ≤ 1 ⌝ }
 {
-    if x == 0 {
-        return 0;
-    }
-    if y == 0 {
-        return 0;
-    }
-    1
+    if x == 0 { 0 } else { 1 }
 }
 
-// Whether thinning would leave more than three in four of some edges, 64 at most and spread over all. It decides what is tried next, not what is found.
-fn is_thick(starts: &[u16], ends: &[u16], left: &[u8; 512], entered: &[u8; 512]) -> bool
+// Whether thinning would leave many edges, by a guess: whether of some edges, 64 at most and spread over all, more than one in ten enters a cluster that one
+// edge in eight leaves. It decides what is tried, not what is found.
+fn is_thick(starts: &[u16], ends: &[u16]) -> bool
     requires { ⌜ Ended (now starts) (now ends) ⌝ }
-    ensures { λ r. ⌜ (r ≡ true → 0 < length (now (starts .entry))) ⌝ }
 {
-    let step = starts.len() / 64 + 1;
+    let mut left = [0u8; 512];
+    mark(starts, starts.len(), 8, &mut left);
+    let step = ends.len() / 64 + 1;
     let mut kept: usize = 0;
     let mut tried: usize = 0;
     let mut j: usize = 0;
-    while j < starts.len() {
-        let a = graph::end_at(starts, j);
-        let b = graph::end_at(ends, j);
-        kept += both(entered[a], left[b]);
+    while j < ends.len() {
+        kept += one_if(left[graph::end_at(ends, j)]);
         tried += 1;
         j += step;
     }
-    4 * kept > 3 * tried
+    10 * kept > tried
 }
 
-// Writes the edges from an entered cluster to a left one to the front of `from` and `to`, and answers how many they are: a cycle goes through no others.
-fn thin(
-    starts: &[u16],
-    ends: &[u16],
-    left: &[u8; 512],
-    entered: &[u8; 512],
-    from: &mut [u16; 1024],
-    to: &mut [u16; 1024],
-) -> usize
-    requires { ⌜ Ended (now starts) (now ends) ⌝ }
-    requires { ⌜ Touched (joining (now starts) (now ends)) (length (now starts)) (now left) (now entered) ⌝ }
-    requires { ⌜ (length (now from) ≡ 1024) × (length (now to) ≡ 1024) ⌝ }
-    ensures { λ r. ⌜ Thinned (now (starts .entry)) (now (ends .entry)) (now (from .exit)) (now (to .exit)) r ⌝ }
+// Puts the edge from a to b at place t, if b is marked. Answers how many edges there are then.
+fn keep(mark: u8, a: u16, b: u16, from: &mut [u16; 1024], to: &mut [u16; 1024], t: usize) -> usize
+    requires { ⌜ (length (now from) ≡ 1024) × (length (now to) ≡ 1024) × (t < 1024) ⌝ }
+    ensures { λ r. ⌜ Kept mark a b (now (from .entry)) (now (to .entry)) t (now (from .exit)) (now (to .exit)) r ⌝ }
+{
+    if mark == 0 {
+        return t;
+    }
+    from[t] = a;
+    to[t] = b;
+    t + 1
+}
+
+// Leaves those of the first q edges whose end is marked. Answers how many they are.
+fn sift(left: &[u8; 512], from: &mut [u16; 1024], to: &mut [u16; 1024], q: usize) -> usize
+    requires { ⌜ Held (now from) (now to) q ⌝ }
+    requires { ⌜ length (now left) ≡ 512 ⌝ }
+    ensures { λ r. ⌜ Sifting (now (left .entry)) (now (from .entry)) (now (to .entry)) q (now (from .exit)) (now (to .exit)) r ⌝ }
 {
     let mut t: usize = 0;
     let mut j: usize = 0;
-    while j < starts.len() {
-        let a = graph::end_at(starts, j);
-        let b = graph::end_at(ends, j);
-        from[t] = a as u16;
-        to[t] = b as u16;
-        t += both(entered[a], left[b]);
+    while j < q {
+        let a = from[j];
+        let b = to[j];
+        t = keep(left[folds::wide(b)], a, b, from, to, t);
         j += 1;
     }
     t
+}
+
+// Of the first q edges, those that enter a cluster which none of them leaves go: no cycle goes through it. Answers how many are left.
+fn thin(from: &mut [u16; 1024], to: &mut [u16; 1024], q: usize) -> usize
+    requires { ⌜ Held (now from) (now to) q ⌝ }
+    ensures { λ r. ⌜ Thinned (now (from .entry)) (now (to .entry)) q (now (from .exit)) (now (to .exit)) r ⌝ }
+{
+    let mut left = [0u8; 512];
+    mark(from, q, 1, &mut left);
+    sift(&left, from, to, q)
+}
+
+// The list, in the front of `out`.
+fn copy(list: &[u16], out: &mut [u16; 1024])
+    requires { ⌜ (length (now list) ≤ 1024) × (length (now out) ≡ 1024) ⌝ }
+    ensures { λ _. ⌜ (length (now (out .exit)) ≡ 1024) × (take (length (now (list .entry))) (now (out .exit)) ≡ now (list .entry)) ⌝ }
+{
+    let mut j: usize = 0;
+    while j < list.len() {
+        out[j] = list[j];
+        j += 1;
+    }
+}
+
+// Thins the edges again and again, as long as a quarter of them goes. Answers how many are left in the front of `from` and `to`.
+fn thin_all(starts: &[u16], ends: &[u16], from: &mut [u16; 1024], to: &mut [u16; 1024]) -> usize
+    requires { ⌜ Ended (now starts) (now ends) ⌝ }
+    requires { ⌜ (length (now from) ≡ 1024) × (length (now to) ≡ 1024) ⌝ }
+    ensures { λ r. ⌜ Rest (now (starts .entry)) (now (ends .entry)) (now (from .exit)) (now (to .exit)) r ⌝ }
+{
+    copy(starts, from);
+    copy(ends, to);
+    let mut q = starts.len();
+    let mut r = thin(from, to, q);
+    while 4 * r < 3 * q {
+        q = r;
+        r = thin(from, to, q);
+    }
+    r
 }
 
 // Fills lists of the edges that leave each cluster, and counts those that enter it.
@@ -151,42 +185,50 @@ fn none_left(c: u16) -> usize
     if c == 0 { 1 } else { 0 }
 }
 
-// Puts b at the end of the queue, where it counts if it waits for nothing. Answers how many the queue then holds.
-fn line_up(c: u16, b: usize, queue: &mut [u16; 512], t: usize) -> usize
-    requires { ⌜ (b < 512) × Lined (now queue) t ⌝ }
+// Puts a cluster's list of edges at the end of the queue, where it counts if the cluster waits for nothing. Answers how many lists the queue then holds.
+fn line_up(c: u16, list: u16, queue: &mut [u16; 512], t: usize) -> usize
+    requires { ⌜ Lined (now queue) t ⌝ }
     ensures { λ r. ⌜ Lined (now (queue .exit)) r ⌝ }
 {
     if t >= 512 {
         return t;
     }
-    queue[t] = b as u16;
+    queue[t] = list;
     t + none_left(c)
 }
 
-// The clusters below g that wait for nothing. Answers how many the queue holds.
-fn line_first(count: &[u16; 512], g: usize, queue: &mut [u16; 512]) -> usize
-    requires { ⌜ (g ≤ 512) × (length (now queue) ≡ 512) ⌝ }
+// The lists of the clusters below g that wait for nothing. Answers how many the queue holds.
+fn line_first(count: &[u16; 512], head: &[u16; 512], g: usize, queue: &mut [u16; 512]) -> usize
+    requires { ⌜ (g ≤ 512) × (length (now count) ≡ 512) × (length (now head) ≡ 512) × (length (now queue) ≡ 512) ⌝ }
     ensures { λ r. ⌜ Lined (now (queue .exit)) r ⌝ }
 {
     let mut t: usize = 0;
     let mut i: usize = 0;
     while i < g {
-        t = line_up(count[i], i, queue, t);
+        t = line_up(count[i], head[i], queue, t);
         i += 1;
     }
     t
 }
 
-// Takes the edges from `first` on off the counts, and puts what then waits for nothing into the queue.
+// How many edges a cluster still waits for, or, where it waits for none, its rank: its place in the queue, from 1. Those that never waited stay at 0.
+fn count_or_rank(c: u16, t: usize) -> u16
+    requires { ⌜ t ≤ 512 ⌝ }
+{
+    if c == 0 { t as u16 + 1 } else { c }
+}
+
+// Takes the edges from `first` on off the counts, and puts the lists of those that then wait for nothing into the queue.
 fn release(
     ends: &[u16],
+    head: &[u16; 512],
     next: &[u16; 1024],
     first: usize,
     count: &mut [u16; 512],
     queue: &mut [u16; 512],
     t: usize,
 ) -> usize
-    requires { ⌜ Named (now ends) × Onward (length (now ends)) (now next) ⌝ }
+    requires { ⌜ Named (now ends) × (length (now head) ≡ 512) × Onward (length (now ends)) (now next) ⌝ }
     requires { ⌜ (length (now count) ≡ 512) × Lined (now queue) t ⌝ }
     ensures { λ r. ⌜ (length (now (count .exit)) ≡ 512) × Lined (now (queue .exit)) r ⌝ }
 {
@@ -195,14 +237,14 @@ fn release(
     while j < ends.len() {
         let b = graph::end_at(ends, j);
         let c = std::num::wrapping_sub_u16(count[b], 1);
-        count[b] = c;
-        size = line_up(c, b, queue, size);
+        count[b] = count_or_rank(c, size);
+        size = line_up(c, head[b], queue, size);
         j = folds::wide(next[j]);
     }
     size
 }
 
-// Ranks clusters as they leave the queue, each after all that it waited for.
+// Takes the lists from the queue, one after the other: a cluster gets its rank after all that it waited for.
 fn rank_all(
     ends: &[u16],
     head: &[u16; 512],
@@ -210,36 +252,32 @@ fn rank_all(
     count: &mut [u16; 512],
     queue: &mut [u16; 512],
     t: usize,
-    rank: &mut [u16; 512],
 )
-    requires { ⌜ Named (now ends) × Onward (length (now ends)) (now next) ⌝ }
-    requires { ⌜ (length (now count) ≡ 512) × Lined (now queue) t × (length (now rank) ≡ 512) ⌝ }
-    ensures { λ _. ⌜ length (now (rank .exit)) ≡ 512 ⌝ }
+    requires { ⌜ Named (now ends) × (length (now head) ≡ 512) × Onward (length (now ends)) (now next) ⌝ }
+    requires { ⌜ (length (now count) ≡ 512) × Lined (now queue) t ⌝ }
+    ensures { λ _. ⌜ length (now (count .exit)) ≡ 512 ⌝ }
 {
     let mut size = t;
     let mut n: usize = 0;
     while n < size {
-        let u = folds::wide(queue[n]);
+        let first = folds::wide(queue[n]);
         n += 1;
-        rank[u] = n as u16;
-        size = release(ends, next, folds::wide(head[u]), count, queue, size);
+        size = release(ends, head, next, first, count, queue, size);
     }
 }
 
-// Guesses ranks for g clusters, which `rises_by` then tries: where there is a cycle, some are left at 0.
+// Guesses ranks for g clusters, which `rises_by` then tries: where there is a cycle, some are left at what they wait for.
 fn guess(starts: &[u16], ends: &[u16], g: usize, rank: &mut [u16; 512])
     requires { ⌜ Ended (now starts) (now ends) ⌝ }
     requires { ⌜ g ≤ 512 ⌝ }
     ensures { λ _. ⌜ length (now (rank .exit)) ≡ 512 ⌝ }
 {
-    *rank = [0; 512];
     let mut head = [0u16; 512];
     let mut next = [0u16; 1024];
-    let mut count = [0u16; 512];
     let mut queue = [0u16; 512];
-    link(starts, ends, &mut head, &mut next, &mut count);
-    let t = line_first(&count, g, &mut queue);
-    rank_all(ends, &head, &next, &mut count, &mut queue, t, rank);
+    link(starts, ends, &mut head, &mut next, rank);
+    let t = line_first(rank, &head, g, &mut queue);
+    rank_all(ends, &head, &next, rank, &mut queue, t);
 }
 
 // Whether ranks can be guessed for g clusters that rise along every edge.
@@ -253,28 +291,22 @@ fn is_ranked(starts: &[u16], ends: &[u16], g: usize) -> bool
     rises_by(&rank, starts, ends)
 }
 
-// Whether the edges are seen to form no cycle: they are thinned as long as half of them go, and ranked where fewer do. False says nothing.
+// Whether the edges are seen to form no cycle: where thinning is likely to leave few of them they are thinned, and what is left is ranked. False says nothing.
 fn is_free(starts: &[u16], ends: &[u16], g: usize) -> bool
     requires { ⌜ Ended (now starts) (now ends) ⌝ }
     requires { ⌜ g ≤ 512 ⌝ }
     ensures { λ r. ⌜ (r ≡ true → Acyclic (Edge (joining (now (starts .entry)) (now (ends .entry))))) ⌝ }
 {
-    if starts.len() == 0 {
-        return true;
-    }
-    let mut left = [0u8; 512];
-    let mut entered = [0u8; 512];
-    touch(starts, ends, &mut left, &mut entered);
-    if is_thick(starts, ends, &left, &entered) {
+    if is_thick(starts, ends) {
         return is_ranked(starts, ends, g);
     }
     let mut from = [0u16; 1024];
     let mut to = [0u16; 1024];
-    let q = thin(starts, ends, &left, &entered, &mut from, &mut to);
-    if 2 * q > starts.len() {
-        return is_ranked(&from[..q], &to[..q], g);
+    let r = thin_all(starts, ends, &mut from, &mut to);
+    if r == 0 {
+        return true;
     }
-    is_free(&from[..q], &to[..q], g)
+    is_ranked(&from[..r], &to[..r], g)
 }
 
 // The lowest of g clusters that lies on a cycle, or g: searched for only where the edges are not seen to form none.

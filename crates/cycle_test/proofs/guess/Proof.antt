@@ -10,8 +10,8 @@ guess-spec =
     (tie.spec
     (λ c κs. search needs)
     (λ c κs. search needs)
-    (λ c κs. let f = c .before .before .before .before .before in
-    let k = f .before .before .before in
-    let p = k .before .before .before .before .before .before .before .pre .0 in
-    let r = k .link .ensures in ((p .to, rw (p .same) (r .2)), (r .1, f .line-first .ensures, refl)))
+    (λ c κs. let f = c .before .before .before .before in
+    let k = f .before .before .before .before in
+    let p = k .before .before .before .before .before .before .pre .0 in
+    let r = k .link .ensures in ((p .to, r .0, rw (p .same) (r .2)), (r .1, f .line-first .ensures)))
     (λ c. search needs))

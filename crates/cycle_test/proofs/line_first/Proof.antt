@@ -1,5 +1,4 @@
--- what is in the queue are clusters
-use Rattle.cycle_test.proofs.Guesses.{lined-none}
+-- the queue has room
 use Rattle.cycle_test.specs.Guess.{Lined}
 use native.Mathlib.Omega.{arith}
 use Prim.Native.Nat.{_≤_, _-_}
@@ -8,16 +7,18 @@ use Rattle.cycle_test.proofs.line_first.Statement.{statement}
 use Rattle.cycle_test.proofs.line_first.Tie as tie
 
 abbrev Inv-loop : tie.InvT-loop
-Inv-loop count g queue₀ t₀ i₀ queue t i = (i ≤ g) × Lined queue t
+Inv-loop count head g queue₀ t₀ i₀ queue t i = (i ≤ g) × Lined queue t
 
 abbrev μ-loop : tie.MeasureT-loop
-μ-loop count g queue₀ t₀ i₀ queue t i = g - i
+μ-loop count head g queue₀ t₀ i₀ queue t i = g - i
 
 pub line-first-spec : {M : Type 1} → statement M
 line-first-spec =
     tie.close
     (tie.spec Inv-loop μ-loop
-    (λ c. (omega arith, lined-none (c .pre .1)))
+    (λ c. search needs)
+    (λ c. search needs)
+    (λ c. search needs)
     (λ c. search needs)
     (λ c. search needs)
     (λ c κs. search needs)

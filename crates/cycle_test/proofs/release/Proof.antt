@@ -1,4 +1,4 @@
--- what is in the queue are clusters; the lists lead on
+-- the queue has room; the lists lead on
 use Rattle.cycle_test.specs.Guess.{Lined}
 use lib.ListN.{length, length-set}
 use native.Mathlib.Omega.{arith}
@@ -9,10 +9,14 @@ use Rattle.cycle_test.proofs.release.Statement.{statement}
 use Rattle.cycle_test.proofs.release.Tie as tie
 
 abbrev Inv-loop : tie.InvT-loop
-Inv-loop ends next first count₀ queue₀ t size₀ j₀ count queue size j = (length count ≡ 512) × Lined queue size
+Inv-loop ends head next first count₀ queue₀ t size₀ j₀ count queue size j = (length count ≡ 512) × Lined queue size
 
 abbrev μ-loop : tie.MeasureT-loop
-μ-loop ends next first count₀ queue₀ t size₀ j₀ count queue size j = length ends - j
+μ-loop ends head next first count₀ queue₀ t size₀ j₀ count queue size j = length ends - j
+
+-- where a turn begins, seen from its end
+abbrev turn : tie.After-wide Inv-loop μ-loop → tie.In-loop Inv-loop μ-loop
+turn c = c .before .before .before .before .before .before .before .before .before
 
 pub release-spec : {M : Type 1} → statement M
 release-spec =
@@ -23,13 +27,15 @@ release-spec =
     (λ c. search needs)
     (λ c. search needs)
     (λ c κs. search needs)
+    (λ c κs. search needs)
+    (λ c. search needs)
+    (λ c. search needs)
     (λ c. search needs)
     (λ c. search needs)
     (λ c κs. search needs)
     (λ c. search needs)
     (λ c. search needs)
     (λ c κs. search needs)
-    (λ c. let t = c .before .before .before .before .before .before .before in
-    omega (arith, c .wide .ensures, t .before .before .before .pre .0 .1 .later (t .before .loop .j) (t .loop-test .taken)))
-    (λ c. let l = c .before .before .before .before .before .before .before .before .loop in (simp length-set (l .inv .0), c .before .before .line-up .ensures))
+    (λ c. let t = turn c in omega (arith, c .wide .ensures, t .before .before .before .pre .0 .2 .later (t .before .loop .j) (t .loop-test .taken)))
+    (λ c. (simp length-set (turn c .before .loop .inv .0), c .before .before .line-up .ensures))
     (λ c. search needs))
