@@ -20,22 +20,27 @@ mark-at l a h = rw (getD-set-same l a 1 0 h) (omega arith)
 mark-stays : (l : List ℕ) (a v : ℕ) → a < length l → 0 < getD l v 0 → 0 < getD (set l a 1) v 0
 mark-stays l a v h p = either (eq-or-ne v a) (λ q. rw q (mark-at l a h)) (λ n. rw (getD-set-other l a v 1 0 n) p)
 
-module _ (starts : List ℕ) (step : ℕ) where
-  pub marked-none : {left : List ℕ} → length left ≡ 512 → Marked starts step 0 left
-  marked-none e = record { tall = e; leaves = λ _ i l. absurd (omega arith) }
+module _ (starts : List ℕ) where
+  pub marked-none : {left : List ℕ} → length left ≡ 512 → Marked starts 0 left
+  marked-none e = record { tall = e; leaves = λ i l. absurd (omega arith) }
 
-  pub marked-next : {left : List ℕ} {j a : ℕ} → a ≡ getD starts j 0 → a < 512 → Marked starts step j left → Marked starts step (j + step) (set left a 1)
+  pub marked-next : {left : List ℕ} {j a : ℕ} → a ≡ getD starts j 0 → a < 512 → Marked starts j left → Marked starts (j + 1) (set left a 1)
   marked-next {left} {j} {a} ea la T =
       record {
         tall = length-set left a 1 ∙ T .tall;
-        leaves = λ s i l.
+        leaves = λ i l.
             either (eq-or-ne i j)
             (λ q. rw (q, ← ea) (mark-at left a (omega (arith, T .tall))))
-            (λ n. mark-stays left a (getD starts i 0) (omega (arith, T .tall)) (T .leaves s i (omega arith)));
+            (λ n. mark-stays left a (getD starts i 0) (omega (arith, T .tall)) (T .leaves i (omega arith)));
       }
 
-  pub marked-end : {left : List ℕ} {j m : ℕ} → m ≤ j → Marked starts step j left → Marked starts step m left
-  marked-end p T = record { tall = T .tall; leaves = λ s i l. T .leaves s i (omega arith) }
+  pub marked-end : {left : List ℕ} {j m : ℕ} → m ≤ j → Marked starts j left → Marked starts m left
+  marked-end p T = record { tall = T .tall; leaves = λ i l. T .leaves i (omega arith) }
+
+-- the same edges in the front of another list
+pub marked-front : {starts from left : List ℕ} → take (length starts) from ≡ starts → Marked starts (length starts) left → Marked from (length starts) left
+marked-front {starts} {from} {left} e T =
+    record { tall = T .tall; leaves = λ i l. rw (← getD-take (length starts) from i 0 l, e) (T .leaves i l) }
 
 -- the first q entries, as a list of their own
 pub front-long : {l : List ℕ} {q : ℕ} → Clusters l q → length (take q l) ≡ q
@@ -48,10 +53,7 @@ front-named {l} {q} C =
 pub held-ended : {from to : List ℕ} {q : ℕ} → Held from to q → Ended (take q from) (take q to)
 held-ended H = record { from = front-named (H .starts); to = front-named (H .ends); same = front-long (H .ends) ∙ sym (front-long (H .starts)) }
 
--- a list of clusters, whole or in the front of another
-pub named-clusters : {l : List ℕ} → Named l → Clusters l (length l)
-named-clusters N = record { room = omega arith; few = N .few; low = N .low }
-
+-- a list of clusters in the front of another
 clusters-none : {l : List ℕ} → Clusters l 0
 clusters-none = record { room = omega arith; few = omega arith; low = λ i h. absurd (omega arith) }
 
@@ -154,13 +156,13 @@ module _ (A B : Arcs) (left : List ℕ) (leaves : (i : ℕ) → i < A .count →
   kept-free n (v, w) = n (v, walk-kept w (first-left w))
 
 -- one round
-pub thinned : {left from to from′ to′ : List ℕ} {q r : ℕ} → Held from to q → Marked from 1 q left → Sifting left from to q from′ to′ r → Thinned from to q from′ to′ r
+pub thinned : {left from to from′ to′ : List ℕ} {q r : ℕ} → Held from to q → Marked from q left → Sifting left from to q from′ to′ r → Thinned from to q from′ to′ r
 thinned {left} {from} {to} {from′} {to′} {q} {r} H T K =
     record {
       held = K .held;
       few = K .few;
       free = kept-free (joining (take q from) (take q to)) (joining (take r from′) (take r to′)) left
-          (λ i l. let z : i < q = omega (arith, front-long (H .starts)) in rw (getD-take q from i 0 z) (T .leaves refl i z))
+          (λ i l. let z : i < q = omega (arith, front-long (H .starts)) in rw (getD-take q from i 0 z) (T .leaves i z))
           (λ i l p. let z : i < q = omega (arith, front-long (H .starts)) in
           let (h, lh, fa, tb) = K .kept i z (rw (getD-take q to i 0 z) at p) in
           (h, omega (arith, front-long (K .held .starts)), getD-take r from′ h 0 lh ∙ fa ∙ sym (getD-take q from i 0 z), getD-take r to′ h 0 lh ∙ tb ∙ sym (getD-take q to i 0 z)));

@@ -12,10 +12,10 @@ pub record Clusters (list : List ℕ) (q : ℕ) : Type 0 where
   pub few : q ≤ 1024
   pub low : (i : ℕ) → i < q → getD list i 0 < 512
 
--- with a step of 1, what the first j edges leave is marked
-pub record Marked (starts : List ℕ) (step j : ℕ) (left : List ℕ) : Type 0 where
+-- what the first j edges leave is marked
+pub record Marked (starts : List ℕ) (j : ℕ) (left : List ℕ) : Type 0 where
   pub tall : length left ≡ 512
-  pub leaves : step ≡ 1 → (i : ℕ) → i < j → 0 < getD left (getD starts i 0) 0
+  pub leaves : (i : ℕ) → i < j → 0 < getD left (getD starts i 0) 0
 
 -- q edges, in lists of 1,024 entries
 pub record Held (from to : List ℕ) (q : ℕ) : Type 0 where

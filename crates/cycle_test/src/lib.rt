@@ -42,18 +42,16 @@ fn rises_by(rank: &[u16; 512], starts: &[u16], ends: &[u16]) -> bool
     true
 }
 
-// Marks what every step-th of the first q edges leaves.
-fn mark(starts: &[u16], q: usize, step: usize, left: &mut [u8; 512])
+// Marks what the first q edges leave.
+fn mark(starts: &[u16; 1024], q: usize, left: &mut [u8; 512])
     requires { ⌜ Clusters (now starts) q ⌝ }
-    requires { ⌜ (1 ≤ step) × (step ≤ 1024) ⌝ }
-    ensures { λ _. ⌜ Marked (now (starts .entry)) step q (now (left .exit)) ⌝ }
+    ensures { λ _. ⌜ Marked (now (starts .entry)) q (now (left .exit)) ⌝ }
 {
     *left = [0; 512];
     let mut j: usize = 0;
     while j < q {
-        let a = folds::at16(starts, j);
-        left[a] = 1;
-        j += step;
+        left[folds::wide(starts[j])] = 1;
+        j += 1;
     }
 }
 
@@ -64,13 +62,11 @@ fn one_if(x: u8) -> usize
     if x == 0 { 0 } else { 1 }
 }
 
-// Whether thinning would leave many edges, by a guess: whether of some edges, 64 at most and spread over all, more than one in ten enters a cluster that one
-// edge in eight leaves. It decides what is tried, not what is found.
-fn is_thick(starts: &[u16], ends: &[u16]) -> bool
-    requires { ⌜ Ended (now starts) (now ends) ⌝ }
+// Whether thinning would leave more than nine in sixteen of some edges, 64 at most and spread over all. It decides what is tried, not what is found.
+fn is_thick(ends: &[u16], left: &[u8; 512]) -> bool
+    requires { ⌜ Named (now ends) ⌝ }
+    requires { ⌜ length (now left) ≡ 512 ⌝ }
 {
-    let mut left = [0u8; 512];
-    mark(starts, starts.len(), 8, &mut left);
     let step = ends.len() / 64 + 1;
     let mut kept: usize = 0;
     let mut tried: usize = 0;
@@ -80,7 +76,7 @@ fn is_thick(starts: &[u16], ends: &[u16]) -> bool
         tried += 1;
         j += step;
     }
-    10 * kept > tried
+    16 * kept > 9 * tried
 }
 
 // Puts the edge from a to b at place t, if b is marked. Answers how many edges there are then.
@@ -119,7 +115,7 @@ fn thin(from: &mut [u16; 1024], to: &mut [u16; 1024], q: usize) -> usize
     ensures { λ r. ⌜ Thinned (now (from .entry)) (now (to .entry)) q (now (from .exit)) (now (to .exit)) r ⌝ }
 {
     let mut left = [0u8; 512];
-    mark(from, q, 1, &mut left);
+    mark(from, q, &mut left);
     sift(&left, from, to, q)
 }
 
@@ -135,16 +131,23 @@ fn copy(list: &[u16], out: &mut [u16; 1024])
     }
 }
 
-// Thins the edges again and again, as long as a quarter of them goes. Answers how many are left in the front of `from` and `to`.
-fn thin_all(starts: &[u16], ends: &[u16], from: &mut [u16; 1024], to: &mut [u16; 1024]) -> usize
+// Thins the edges, and then what is left again and again, as long as a quarter goes. Answers how many are left in the front of `from` and `to`.
+fn thin_all(
+    starts: &[u16],
+    ends: &[u16],
+    left: &[u8; 512],
+    from: &mut [u16; 1024],
+    to: &mut [u16; 1024],
+) -> usize
     requires { ⌜ Ended (now starts) (now ends) ⌝ }
+    requires { ⌜ Marked (now starts) (length (now starts)) (now left) ⌝ }
     requires { ⌜ (length (now from) ≡ 1024) × (length (now to) ≡ 1024) ⌝ }
     ensures { λ r. ⌜ Rest (now (starts .entry)) (now (ends .entry)) (now (from .exit)) (now (to .exit)) r ⌝ }
 {
     copy(starts, from);
     copy(ends, to);
     let mut q = starts.len();
-    let mut r = thin(from, to, q);
+    let mut r = sift(left, from, to, q);
     while 4 * r < 3 * q {
         q = r;
         r = thin(from, to, q);
@@ -292,26 +295,28 @@ fn is_ranked(starts: &[u16], ends: &[u16], g: usize) -> bool
 }
 
 // Whether the edges are seen to form no cycle: where thinning is likely to leave few of them they are thinned, and what is left is ranked. False says nothing.
-fn is_free(starts: &[u16], ends: &[u16], g: usize) -> bool
+fn is_free(starts: &[u16], ends: &[u16], left: &[u8; 512], g: usize) -> bool
     requires { ⌜ Ended (now starts) (now ends) ⌝ }
+    requires { ⌜ Marked (now starts) (length (now starts)) (now left) ⌝ }
     requires { ⌜ g ≤ 512 ⌝ }
     ensures { λ r. ⌜ (r ≡ true → Acyclic (Edge (joining (now (starts .entry)) (now (ends .entry))))) ⌝ }
 {
-    if is_thick(starts, ends) {
+    if is_thick(ends, left) {
         return is_ranked(starts, ends, g);
     }
     let mut from = [0u16; 1024];
     let mut to = [0u16; 1024];
-    let r = thin_all(starts, ends, &mut from, &mut to);
+    let r = thin_all(starts, ends, left, &mut from, &mut to);
     if r == 0 {
         return true;
     }
     is_ranked(&from[..r], &to[..r], g)
 }
 
-// The lowest of g clusters that lies on a cycle, or g: searched for only where the edges are not seen to form none.
-pub fn find_cycle(starts: &[u16], ends: &[u16], g: usize) -> usize
+// The lowest of g clusters that lies on a cycle, or g: searched for only where the edges are not seen to form none. What they leave is marked.
+pub fn find_cycle(starts: &[u16], ends: &[u16], left: &[u8; 512], g: usize) -> usize
     requires { ⌜ Ended (now starts) (now ends) ⌝ }
+    requires { ⌜ Marked (now starts) (length (now starts)) (now left) ⌝ }
     requires { ⌜ Inside (joining (now starts) (now ends)) g ⌝ }
     requires { ⌜ g ≤ 512 ⌝ }
     ensures { λ r. ⌜ r ≡ lowestOnCycle (joining (now (starts .entry)) (now (ends .entry))) g ⌝ }
@@ -319,7 +324,7 @@ pub fn find_cycle(starts: &[u16], ends: &[u16], g: usize) -> usize
     if rises(starts, ends) {
         return g;
     }
-    if is_free(starts, ends, g) {
+    if is_free(starts, ends, left, g) {
         return g;
     }
     let mut taken = [0u16; 512];

@@ -10,7 +10,7 @@ use lib.Bits.{bitOr}
 use lib.Dec.{eqb, ltb}
 use lib.ListN.{length, getD, set}
 use lib.Seq.{getD-set-same, getD-set-other}
-use borrow.Author.Tests.{eqb-true, eq-eqb, ne-eqb, ltb-true, ltb-false}
+use borrow.Author.Tests.{eqb-true, eq-eqb, ne-eqb, ltb-true, ltb-false, le-ltb}
 use Rattle.folds.specs.Fold.{firstTo, anyTo, Read}
 use Rattle.folds.proofs.Cases.{by, no-bool, either, eq-or-ne, both, both-i, and-false, same-test}
 use Rattle.folds.proofs.Searches.{firstTo-none, firstTo-hit, any-i, any-ext, any-step, any-zero}
@@ -20,7 +20,7 @@ use Rattle.pool.specs.Pool.{word}
 use Rattle.pool.proofs.Words.{word-ext, word-none, word-bit, word-or}
 use Rattle.validity.specs.Check.{refuseAt, repeats, cyclesFrom, repeatsFrom, listsFrom, checked}
 use Rattle.validity.specs.Contracts.{Fits}
-use Rattle.validity.specs.Repeat.{firstRepeat, tried, triedOf}
+use Rattle.validity.specs.Repeat.{firstRepeat, tried, triedOf, Found}
 use Rattle.validity.specs.Drawn.{triedBy, checkedWith}
 use Rattle.validity.specs.declared.Checked.{Checked}
 use Rattle.validity.specs.declared.Cause.{Cause}
@@ -153,6 +153,12 @@ pub fits-roomy : {n : ℕ} {starts ends : List ℕ} (stride : ℕ) → Fits n st
 fits-roomy {starts = starts} {ends = ends} stride F l =
     record {
       ended = omega (arith, F .same, tried-le (firstRepeat starts ends) (length starts));
+      start-low = λ j h. omega (arith, F .few, F .start-in j (tried-there starts ends h));
       start-in = λ j h. rw (← suc-mul (getD starts j 0) stride) (mul-le-mul-right stride (omega (arith, F .start-in j (tried-there starts ends h))));
       end-in = λ j h. omega (arith, F .end-in j (tried-there starts ends h));
     }
+
+-- where none repeats an earlier one, all were tried
+pub tried-all : {starts ends : List ℕ} {place t : ℕ} → Found starts ends place t → length starts ≤ place → t ≡ length starts
+unfolding tried
+tried-all F l = F .count-is ∙ rw (← F .place-is, le-ltb _ _ l) refl

@@ -13,6 +13,7 @@ use Rattle.validity.specs.Repeat.{triedOf}
 -- words, and these have a bit for each end.
 pub record WordsRoom (starts ends : List ℕ) (stride words : ℕ) : Type 0 where
   pub ended : triedOf starts ends ≤ length ends
+  pub start-low : (j : ℕ) → j < triedOf starts ends → getD starts j 0 < 512
   pub start-in : (j : ℕ) → j < triedOf starts ends → getD starts j 0 * stride + stride ≤ words
   pub end-in : (j : ℕ) → j < triedOf starts ends → getD ends j 0 < stride * 64
 

@@ -6,6 +6,7 @@ ghost use mathlib.Core.Bool.{_||_};
 ghost use lib.Dec.{eqb, ltb, leb};
 ghost use Rattle.folds.specs.Fold.{when, countTo, firstTo};
 ghost use Rattle.graph.specs.Graph.{graphOf};
+ghost use Rattle.cycle_test.specs.Thin.{Marked};
 ghost use Rattle.validity.specs.Cause.{numberOf};
 ghost use Rattle.validity.specs.Repeat.{Found, triedOf};
 ghost use Rattle.validity.specs.Words.{WordsRoom, Trying, Tried};
@@ -234,15 +235,24 @@ fn try_edge(starts: &[u16], ends: &[u16], j: usize, stride: usize, seen: &mut [u
     old == new
 }
 
-// Tries the edges from the lowest up, and counts them, to the first that repeats an earlier one. It asks nothing of those past it.
-fn first_repeat(starts: &[u16], ends: &[u16], stride: usize, seen: &mut [u64]) -> Repeated
+// Tries the edges from the lowest up, counts them and marks what they leave, to the first that repeats an earlier one. It asks nothing of those past it.
+fn first_repeat(
+    starts: &[u16],
+    ends: &[u16],
+    stride: usize,
+    seen: &mut [u64],
+    left: &mut [u8; 512],
+) -> Repeated
     requires { ⌜ WordsRoom (now starts) (now ends) stride (length (now seen)) ⌝ }
     requires { ⌜ ((w : ℕ) → getD (now seen) w 0 ≡ 0) ⌝ }
+    requires { ⌜ length (now left) ≡ 512 ⌝ }
     ensures { λ r. ⌜ Found (now (starts .entry)) (now (ends .entry)) (r .place) (r .tried) ⌝ }
+    ensures { λ r. ⌜ Marked (now (starts .entry)) (r .tried) (now (left .exit)) ⌝ }
 {
     let mut tried: usize = 0;
     while tried < starts.len() {
         let j = tried;
+        left[folds::at16(starts, j)] = 1;
         tried += 1;
         if try_edge(starts, ends, j, stride, seen) {
             return Repeated {
@@ -257,21 +267,23 @@ fn first_repeat(starts: &[u16], ends: &[u16], stride: usize, seen: &mut [u64]) -
     }
 }
 
-// Where the first repeated edge is, and how many were tried. Fewer vertices, fewer words.
-pub fn find_repeat(n: usize, starts: &[u16], ends: &[u16]) -> Repeated
+// Where the first repeated edge is, and how many were tried; what these leave is marked. Fewer vertices, fewer words.
+fn find_repeat(n: usize, starts: &[u16], ends: &[u16], left: &mut [u8; 512]) -> Repeated
     requires { ⌜ Fits n (now starts) (now ends) ⌝ }
     ensures { λ r. ⌜ Found (now (starts .entry)) (now (ends .entry)) (r .place) (r .tried) ⌝ }
+    ensures { λ r. ⌜ Marked (now (starts .entry)) (r .tried) (now (left .exit)) ⌝ }
 {
+    *left = [0; 512];
     if n <= 64 {
         let mut seen = [0u64; 64];
-        return first_repeat(starts, ends, 1, &mut seen);
+        return first_repeat(starts, ends, 1, &mut seen, left);
     }
     if n <= 256 {
         let mut seen = [0u64; 1024];
-        return first_repeat(starts, ends, 4, &mut seen);
+        return first_repeat(starts, ends, 4, &mut seen, left);
     }
     let mut seen = [0u64; 4096];
-    first_repeat(starts, ends, 8, &mut seen)
+    first_repeat(starts, ends, 8, &mut seen, left)
 }
 
 // Checks 1 to 6: at most `most` vertices; `room` is the caller's verdict of check 4.
@@ -353,7 +365,8 @@ fn check_order(
     ensures { λ r. ⌜ (r .verdict ≡ repeatsFrom n (now (starts .entry)) (now (ends .entry))) × (r .tried ≡ triedOf (now (starts .entry)) (now (ends .entry))) ⌝ }
     ensures { λ r. ⌜ OrderLeft (r .verdict) n (now (starts .entry)) (now (ends .entry)) (now (order .entry)) (now (order .exit)) (now (levels .exit)) (now (head .exit)) (now (next .exit)) ⌝ }
 {
-    let found = find_repeat(n, starts, ends);
+    let mut left = [0u8; 512];
+    let found = find_repeat(n, starts, ends, &mut left);
     if found.place < starts.len() {
         return refuse_repeat(found);
     }
@@ -366,11 +379,16 @@ fn check_edges(n: usize, starts: &[u16], ends: &[u16]) -> Checked
     requires { ⌜ Fits n (now starts) (now ends) ⌝ }
     ensures { λ r. ⌜ (r .verdict ≡ repeatsFrom n (now (starts .entry)) (now (ends .entry))) × (r .tried ≡ triedOf (now (starts .entry)) (now (ends .entry))) ⌝ }
 {
-    let found = find_repeat(n, starts, ends);
+    let mut left = [0u8; 512];
+    let found = find_repeat(n, starts, ends, &mut left);
     if found.place < starts.len() {
         return refuse_repeat(found);
     }
-    check_cycle(cycle_test::find_cycle(starts, ends, n), n, found.tried)
+    check_cycle(
+        cycle_test::find_cycle(starts, ends, &left, n),
+        n,
+        found.tried,
+    )
 }
 
 // Checks 1 to 8. Where they pass, the topological order of the vertices is left in the front of `order`, their levels in `levels`,

@@ -18,5 +18,5 @@ is-free-spec =
     (λ c. sym (front-long (c .before .before .thin-all .ensures .held .starts)))
     (λ c. search needs)
     (λ c. sym (front-long (c .before .before .before .thin-all .ensures .held .ends)))
-    (λ c κs. (held-ended (c .before .before .before .thin-all .ensures .held), c .before .before .before .before .before .before .before .before .before .before .pre .1))
+    (λ c κs. (held-ended (c .before .before .before .thin-all .ensures .held), c .before .before .before .before .before .before .before .before .before .before .pre .1 .1))
     (λ c. λ r. c .before .before .before .before .thin-all .ensures .free (c .is-ranked2 .ensures r)))

@@ -1,7 +1,5 @@
 -- One round: what the edges leave is marked, and then they are sifted.
 use Rattle.cycle_test.proofs.Thins.{thinned}
-use native.Mathlib.Omega.{arith}
-use borrow.Author.Needs.{needs}
 use Rattle.cycle_test.proofs.thin.Statement.{statement}
 use Rattle.cycle_test.proofs.thin.Tie as tie
 
@@ -9,6 +7,6 @@ pub thin-spec : {M : Type 1} → statement M
 thin-spec =
     tie.close
     (tie.spec
-    (λ c κs. (c .before .before .before .pre .starts, (omega arith, omega arith)))
-    (λ c κs. (c .before .before .before .before .before .before .before .pre, c .before .before .before .mark .ensures .tall))
-    (λ c. let m = c .before .before .before .before in thinned (m .before .before .before .before .pre) (m .mark .ensures) (c .sift .ensures)))
+    (λ c κs. c .before .before .pre .starts)
+    (λ c κs. (c .before .before .before .before .before .before .pre, c .before .before .before .mark .ensures .tall))
+    (λ c. let m = c .before .before .before .before in thinned (m .before .before .before .pre) (m .mark .ensures) (c .sift .ensures)))

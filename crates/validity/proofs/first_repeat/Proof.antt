@@ -1,5 +1,5 @@
 -- The bits of the edges tried are set, and none of these repeats an earlier one; so the next is one that the search tries.
-use Prim.Native.Nat.{_≤_, _-_}
+use Prim.Native.Nat.{_≤_, _<_, _-_}
 use mathlib.Core.Path.{_≡_, refl, sym, _∙_}
 use native.Mathlib.Omega.{arith}
 use lib.ListN.{length}
@@ -9,45 +9,57 @@ use Rattle.folds.specs.Fold.{firstTo}
 use Rattle.folds.proofs.Searches.{firstTo-zero, firstTo-more, firstTo-at, firstTo-end}
 use Rattle.validity.specs.Check.{repeats}
 use Rattle.validity.specs.Repeat.{tried}
+use Rattle.cycle_test.specs.Thin.{Marked}
+use Rattle.cycle_test.proofs.Thins.{marked-none, marked-next}
 use Rattle.validity.specs.Words.{BitsSet}
 use Rattle.validity.proofs.Repeats.{bits-none, tries-next}
 use Rattle.validity.proofs.first_repeat.Statement.{statement}
 use Rattle.validity.proofs.first_repeat.Tie as tie
 
 abbrev Inv-loop : tie.InvT-loop
-Inv-loop starts ends stride seen₀ tried₀ seen tried =
-    (tried ≤ length starts) × (length seen ≡ length seen₀) × BitsSet starts ends stride tried seen × (firstTo tried (repeats starts ends) ≡ tried)
+Inv-loop starts ends stride seen₀ left₀ tried₀ seen left tried =
+    (tried ≤ length starts) × (length seen ≡ length seen₀) × BitsSet starts ends stride tried seen × (firstTo tried (repeats starts ends) ≡ tried) × Marked starts tried left
 
 abbrev μ-loop : tie.MeasureT-loop
-μ-loop starts ends stride seen₀ tried₀ seen tried = length starts - tried
+μ-loop starts ends stride seen₀ left₀ tried₀ seen left tried = length starts - tried
 
 -- where a turn begins, seen from after its try
 abbrev turn : tie.After-slice-known2 Inv-loop μ-loop → tie.In-loop Inv-loop μ-loop
-turn c = c .before .before .before .before
+turn c = c .before .before .before .before .before
+
+-- what the edge at hand leaves has a mark
+low : (c : tie.After-at16 Inv-loop μ-loop) → c .at16 .result < 512
+low c =
+    let l = c .before .before in
+    rw (c .at16 .ensures .is) (l .before .before .before .before .pre .0 .start-low _ (tries-next _ _ _ (l .loop .inv .3) (c .before .loop-test .taken)))
 
 pub first-repeat-spec : {M : Type 1} → statement M
 unfolding tried
 first-repeat-spec =
     tie.close
     (tie.spec Inv-loop μ-loop
-    (λ c. (omega arith, refl, bits-none _ _ _ _ (c .before .before .before .pre .1), firstTo-zero _))
+    (λ c. let p = c .before .before .before .pre .1 in (omega arith, refl, bits-none _ _ _ _ (p .0), firstTo-zero _, marked-none _ (p .1)))
+    (λ c κs. search needs)
+    (λ c. low c)
     (λ c. search needs)
     (λ c κs.
-    let l = c .before .before .loop .inv in
+    let l = c .before .before .before .loop .inv in
     record {
-      next = tries-next _ _ _ (l .3) (c .before .loop-test .taken);
-      room = rw (l .1) (c .before .before .before .before .before .before .pre .0);
+      next = tries-next _ _ _ (l .3) (c .before .before .loop-test .taken);
+      room = rw (l .1) (c .before .before .before .before .before .before .before .pre .0);
       bits = l .2;
     })
     (λ c. search needs)
-    (λ c. let l = turn (c .before) .before .loop .inv in
-    let t = turn (c .before) .loop-test .taken in
-    let e = firstTo-at _ _ _ (l .3) (sym (c .before .before .before .try-edge .ensures .0) ∙ c .if1 .taken) t in record { place-is = e; count-is = rw (← e, lt-ltb _ _ t) refl })
+    (λ c. let t = turn (c .before) in
+    let l = t .before .loop .inv in
+    let w = c .before .before .before .before .before in
+    let e = firstTo-at _ _ _ (l .3) (sym (c .before .before .before .try-edge .ensures .0) ∙ c .if1 .taken) (t .loop-test .taken) in
+    (record { place-is = e; count-is = rw (← e, lt-ltb _ _ (t .loop-test .taken)) refl }, marked-next _ (w .at16 .ensures .is) (low w) (l .4)))
     (λ c. search needs)
     (λ c. let l = turn (c .before) .before .loop .inv in
-    let t = turn (c .before) .loop-test .taken in
+    let w = c .before .before .before .before .before in
     let r = c .before .before .before .try-edge .ensures in
-    (omega arith, r .1 .same ∙ l .1, r .1 .bits, firstTo-more _ _ (l .3) (sym (r .0) ∙ c .if1 .left)))
+    (omega arith, r .1 .same ∙ l .1, r .1 .bits, firstTo-more _ _ (l .3) (sym (r .0) ∙ c .if1 .left), marked-next _ (w .at16 .ensures .is) (low w) (l .4)))
     (λ c. search needs)
     (λ c. let l = c .before .loop .inv in
-    let e = firstTo-end _ _ _ (l .3) (l .0) (c .loop-test .left) in record { place-is = e; count-is = rw (← e, le-ltb _ _ (c .loop-test .left)) (omega arith) }))
+    let e = firstTo-end _ _ _ (l .3) (l .0) (c .loop-test .left) in (record { place-is = e; count-is = rw (← e, le-ltb _ _ (c .loop-test .left)) (omega arith) }, l .4)))
