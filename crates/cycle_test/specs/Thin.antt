@@ -28,12 +28,15 @@ pub record Kept (mark a b : ℕ) (from to : List ℕ) (t : ℕ) (from′ to′ :
   pub passed : mark ≡ 0 → (r ≡ t) × (from′ ≡ from) × (to′ ≡ to)
   pub stored : 0 < mark → (r ≡ t + 1) × (from′ ≡ set from t a) × (to′ ≡ set to t b)
 
--- of the first j edges, those to a marked cluster are among the t in the front of the lists; those from j on stand where they stood
+-- of the first j edges, those to a marked cluster are among the t in the front of from′ and to′
 pub record Sifting (left from to : List ℕ) (j : ℕ) (from′ to′ : List ℕ) (t : ℕ) : Type 0 where
   pub held : Held from′ to′ t
   pub few : t ≤ j
-  pub rest : (i : ℕ) → j ≤ i → (getD from′ i 0 ≡ getD from i 0) × (getD to′ i 0 ≡ getD to i 0)
   pub kept : (i : ℕ) → i < j → 0 < getD left (getD to i 0) 0 → (h : ℕ) × (h < t) × (getD from′ h 0 ≡ getD from i 0) × (getD to′ h 0 ≡ getD to i 0)
+
+-- the entries from j on stand where they stood
+pub record Unmoved (list list′ : List ℕ) (j : ℕ) : Type 0 where
+  pub rest : (i : ℕ) → j ≤ i → getD list′ i 0 ≡ getD list i 0
 
 -- the first q edges form no cycle
 abbrev pub Free : List ℕ → List ℕ → ℕ → Type 0

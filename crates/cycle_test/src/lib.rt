@@ -1,8 +1,8 @@
 // The lowest cluster on a cycle, where no order is wanted. Most graphs have no cycle, and numbers that rise along every edge show it, whoever found them.
 ghost use mathlib.Core.Path.{_≡_};
 ghost use mathlib.Core.Bool.{true};
-ghost use Prim.Native.Nat.{_<_, _≤_};
-ghost use lib.ListN.{length, take};
+ghost use Prim.Native.Nat.{_/_, _<_, _≤_};
+ghost use lib.ListN.{length};
 ghost use Rattle.graph.specs.Walk.{Acyclic};
 ghost use Rattle.graph.specs.Graph.{joining, Edge, Inside};
 ghost use Rattle.graph.specs.Links.{Named, Ended};
@@ -25,8 +25,8 @@ fn rises(starts: &[u16], ends: &[u16]) -> bool
     true
 }
 
-// Whether every edge goes up by the ranks of its ends, whoever gave them.
-fn rises_by(rank: &[u16; 512], starts: &[u16], ends: &[u16]) -> bool
+// Whether every edge goes up by the ranks of its ends, whoever gave them: a rank is the low half of a cell.
+fn rises_by(cells: &[u32; 512], starts: &[u16], ends: &[u16]) -> bool
     requires { ⌜ Ended (now starts) (now ends) ⌝ }
     ensures { λ r. ⌜ (r ≡ true → Acyclic (Edge (joining (now (starts .entry)) (now (ends .entry))))) ⌝ }
 {
@@ -34,7 +34,7 @@ fn rises_by(rank: &[u16; 512], starts: &[u16], ends: &[u16]) -> bool
     while j < starts.len() {
         let a = graph::end_at(starts, j);
         let b = graph::end_at(ends, j);
-        if rank[b] <= rank[a] {
+        if cells[b] % 65536 <= cells[a] % 65536 {
             return false;
         }
         j += 1;
@@ -62,7 +62,7 @@ fn one_if(x: u8) -> usize
     if x == 0 { 0 } else { 1 }
 }
 
-// Whether thinning would leave more than nine in sixteen of some edges, 64 at most and spread over all. It decides what is tried, not what is found.
+// Whether thinning would leave more than half of some edges, 64 at most and spread over all. It decides what is tried, not what is found.
 fn is_thick(ends: &[u16], left: &[u8; 512]) -> bool
     requires { ⌜ Named (now ends) ⌝ }
     requires { ⌜ length (now left) ≡ 512 ⌝ }
@@ -76,7 +76,7 @@ fn is_thick(ends: &[u16], left: &[u8; 512]) -> bool
         tried += 1;
         j += step;
     }
-    16 * kept > 9 * tried
+    2 * kept > tried
 }
 
 // Puts the edge from a to b at place t, if b is marked. Answers how many edges there are then.
@@ -92,8 +92,30 @@ fn keep(mark: u8, a: u16, b: u16, from: &mut [u16; 1024], to: &mut [u16; 1024], 
     t + 1
 }
 
-// Leaves those of the first q edges whose end is marked. Answers how many they are.
-fn sift(left: &[u8; 512], from: &mut [u16; 1024], to: &mut [u16; 1024], q: usize) -> usize
+// Writes the edges whose end is marked to the front of `from` and `to`. Answers how many they are.
+fn sift(
+    starts: &[u16],
+    ends: &[u16],
+    left: &[u8; 512],
+    from: &mut [u16; 1024],
+    to: &mut [u16; 1024],
+) -> usize
+    requires { ⌜ Ended (now starts) (now ends) ⌝ }
+    requires { ⌜ (length (now left) ≡ 512) × (length (now from) ≡ 1024) × (length (now to) ≡ 1024) ⌝ }
+    ensures { λ r. ⌜ Sifting (now (left .entry)) (now (starts .entry)) (now (ends .entry)) (length (now (starts .entry))) (now (from .exit)) (now (to .exit)) r ⌝ }
+{
+    let mut t: usize = 0;
+    let mut j: usize = 0;
+    while j < starts.len() {
+        let b = graph::end_at(ends, j);
+        t = keep(left[b], starts[j], ends[j], from, to, t);
+        j += 1;
+    }
+    t
+}
+
+// The same in place, for the first q edges.
+fn resift(left: &[u8; 512], from: &mut [u16; 1024], to: &mut [u16; 1024], q: usize) -> usize
     requires { ⌜ Held (now from) (now to) q ⌝ }
     requires { ⌜ length (now left) ≡ 512 ⌝ }
     ensures { λ r. ⌜ Sifting (now (left .entry)) (now (from .entry)) (now (to .entry)) q (now (from .exit)) (now (to .exit)) r ⌝ }
@@ -116,19 +138,7 @@ fn thin(from: &mut [u16; 1024], to: &mut [u16; 1024], q: usize) -> usize
 {
     let mut left = [0u8; 512];
     mark(from, q, &mut left);
-    sift(&left, from, to, q)
-}
-
-// The list, in the front of `out`.
-fn copy(list: &[u16], out: &mut [u16; 1024])
-    requires { ⌜ (length (now list) ≤ 1024) × (length (now out) ≡ 1024) ⌝ }
-    ensures { λ _. ⌜ (length (now (out .exit)) ≡ 1024) × (take (length (now (list .entry))) (now (out .exit)) ≡ now (list .entry)) ⌝ }
-{
-    let mut j: usize = 0;
-    while j < list.len() {
-        out[j] = list[j];
-        j += 1;
-    }
+    resift(&left, from, to, q)
 }
 
 // Thins the edges, and then what is left again and again, as long as a quarter goes. Answers how many are left in the front of `from` and `to`.
@@ -144,10 +154,8 @@ fn thin_all(
     requires { ⌜ (length (now from) ≡ 1024) × (length (now to) ≡ 1024) ⌝ }
     ensures { λ r. ⌜ Rest (now (starts .entry)) (now (ends .entry)) (now (from .exit)) (now (to .exit)) r ⌝ }
 {
-    copy(starts, from);
-    copy(ends, to);
     let mut q = starts.len();
-    let mut r = sift(left, from, to, q);
+    let mut r = sift(starts, ends, left, from, to);
     while 4 * r < 3 * q {
         q = r;
         r = thin(from, to, q);
@@ -155,132 +163,207 @@ fn thin_all(
     r
 }
 
-// Fills lists of the edges that leave each cluster, and counts those that enter it.
-fn link(
-    starts: &[u16],
-    ends: &[u16],
-    head: &mut [u16; 512],
-    next: &mut [u16; 1024],
-    count: &mut [u16; 512],
-)
+// Fills lists of the edges that leave each cluster, and counts those that enter it. A cell has the first edge of its cluster's list, times 65,536, and the count;
+// an arc has the next edge of its list, times 512, and the end of its own: with two numbers in one word there are fewer words to read and write.
+fn link(starts: &[u16], ends: &[u16], cells: &mut [u32; 512], arcs: &mut [u32; 1024])
     requires { ⌜ Ended (now starts) (now ends) ⌝ }
-    requires { ⌜ length (now next) ≡ 1024 ⌝ }
-    ensures { λ _. ⌜ (length (now (head .exit)) ≡ 512) × (length (now (count .exit)) ≡ 512) × Onward (length (now (starts .entry))) (now (next .exit)) ⌝ }
+    requires { ⌜ length (now arcs) ≡ 1024 ⌝ }
+    ensures { λ _. ⌜ (length (now (cells .exit)) ≡ 512) × Onward (length (now (starts .entry))) (now (arcs .exit)) ⌝ }
 {
     let m = starts.len();
-    *head = [m as u16; 512];
-    *count = [0; 512];
+    *cells = [m as u32 * 65536; 512];
     let mut j: usize = m;
     while j > 0 {
         j -= 1;
         let a = graph::end_at(starts, j);
         let b = graph::end_at(ends, j);
-        next[j] = head[a];
-        head[a] = j as u16;
-        count[b] = std::num::wrapping_add_u16(count[b], 1);
+        let cell = cells[a];
+        arcs[j] = cell / 65536 * 512 + b as u32;
+        cells[a] = j as u32 * 65536 + cell % 65536;
+        cells[b] = cells[b] + 1;
     }
 }
 
-// 1 where nothing is waited for, else 0: a number too.
-fn none_left(c: u16) -> usize
-    ensures { λ r. ⌜ r ≤ 1 ⌝ }
-{
-    if c == 0 { 1 } else { 0 }
+// The list of edges of a cell, by its first one.
+fn list_of(cell: u32) -> u16 {
+    (cell / 65536 % 65536) as u16
 }
 
-// Puts a cluster's list of edges at the end of the queue, where it counts if the cluster waits for nothing. Answers how many lists the queue then holds.
-fn line_up(c: u16, list: u16, queue: &mut [u16; 512], t: usize) -> usize
+// 1 where a cell waits for nothing, else 0: a number too.
+fn none_left(cell: u32) -> usize
+    ensures { λ r. ⌜ r ≤ 1 ⌝ }
+{
+    if cell % 65536 == 0 { 1 } else { 0 }
+}
+
+// Puts the list of a cell at the end of the queue, where it counts if the cell waits for nothing. Answers how many lists the queue then holds.
+fn line_up(cell: u32, queue: &mut [u16; 512], t: usize) -> usize
     requires { ⌜ Lined (now queue) t ⌝ }
     ensures { λ r. ⌜ Lined (now (queue .exit)) r ⌝ }
 {
     if t >= 512 {
         return t;
     }
-    queue[t] = list;
-    t + none_left(c)
+    queue[t] = list_of(cell);
+    t + none_left(cell)
 }
 
 // The lists of the clusters below g that wait for nothing. Answers how many the queue holds.
-fn line_first(count: &[u16; 512], head: &[u16; 512], g: usize, queue: &mut [u16; 512]) -> usize
-    requires { ⌜ (g ≤ 512) × (length (now count) ≡ 512) × (length (now head) ≡ 512) × (length (now queue) ≡ 512) ⌝ }
+fn line_first(cells: &[u32; 512], g: usize, queue: &mut [u16; 512]) -> usize
+    requires { ⌜ (g ≤ 512) × (length (now cells) ≡ 512) × (length (now queue) ≡ 512) ⌝ }
     ensures { λ r. ⌜ Lined (now (queue .exit)) r ⌝ }
 {
     let mut t: usize = 0;
     let mut i: usize = 0;
     while i < g {
-        t = line_up(count[i], head[i], queue, t);
+        t = line_up(cells[i], queue, t);
         i += 1;
     }
     t
 }
 
-// How many edges a cluster still waits for, or, where it waits for none, its rank: its place in the queue, from 1. Those that never waited stay at 0.
-fn count_or_rank(c: u16, t: usize) -> u16
-    requires { ⌜ t ≤ 512 ⌝ }
-{
-    if c == 0 { t as u16 + 1 } else { c }
+// Lists that are to be taken, by their first edges: the one in front, where that is an edge at all, and then those in a queue. The front is not in memory,
+// since a list that is alone there is wanted at once. `rank` is the last that was given.
+struct Line {
+    front: usize,
+    size: usize,
+    rank: u32,
 }
 
-// Takes the edges from `first` on off the counts, and puts the lists of those that then wait for nothing into the queue.
-fn release(
-    ends: &[u16],
-    head: &[u16; 512],
-    next: &[u16; 1024],
-    first: usize,
-    count: &mut [u16; 512],
-    queue: &mut [u16; 512],
-    t: usize,
-) -> usize
-    requires { ⌜ Named (now ends) × (length (now head) ≡ 512) × Onward (length (now ends)) (now next) ⌝ }
-    requires { ⌜ (length (now count) ≡ 512) × Lined (now queue) t ⌝ }
-    ensures { λ r. ⌜ (length (now (count .exit)) ≡ 512) × Lined (now (queue .exit)) r ⌝ }
+// Whether a list comes to the front: 1 where it is ready and there is no edge in front, of m.
+fn leads(ready: usize, front: usize, m: usize) -> usize
+    ensures { λ r. ⌜ r ≤ ready ⌝ }
 {
-    let mut size = t;
-    let mut j = first;
-    while j < ends.len() {
-        let b = graph::end_at(ends, j);
-        let c = std::num::wrapping_sub_u16(count[b], 1);
-        count[b] = count_or_rank(c, size);
-        size = line_up(c, head[b], queue, size);
-        j = folds::wide(next[j]);
+    if front < m { 0 } else { ready }
+}
+
+// One of two numbers, without a branch.
+fn either(first: usize, x: usize, y: usize) -> usize {
+    if first == 1 { x } else { y }
+}
+
+// What a cell becomes: its rank, where it waits for nothing.
+fn rank_or_cell(ready: usize, rank: u32, cell: u32) -> u32 {
+    if ready == 1 { rank } else { cell }
+}
+
+// Takes an edge into b, one of m, off its count. Where that was the last, b gets the next rank, and its list comes to the front or into the queue.
+fn settle(b: usize, m: usize, cells: &mut [u32; 512], queue: &mut [u16; 512], line: Line) -> Line
+    requires { ⌜ (b < 512) × (length (now cells) ≡ 512) × Lined (now queue) (line .size) ⌝ }
+    ensures { λ r. ⌜ (length (now (cells .exit)) ≡ 512) × Lined (now (queue .exit)) (r .size) ⌝ }
+{
+    let size = line.size;
+    if size >= 512 {
+        return line;
     }
-    size
+    let cell = std::num::wrapping_sub_u32(cells[b], 1);
+    let list = list_of(cell);
+    let ready = none_left(cell);
+    let first = leads(ready, line.front, m);
+    let rank = std::num::wrapping_add_u32(line.rank, ready as u32);
+    queue[size] = list;
+    cells[b] = rank_or_cell(ready, rank, cell);
+    Line {
+        front: either(first, folds::wide(list), line.front),
+        size: size + ready - first,
+        rank: rank,
+    }
 }
 
-// Takes the lists from the queue, one after the other: a cluster gets its rank after all that it waited for.
-fn rank_all(
-    ends: &[u16],
-    head: &[u16; 512],
-    next: &[u16; 1024],
-    count: &mut [u16; 512],
-    queue: &mut [u16; 512],
-    t: usize,
-)
-    requires { ⌜ Named (now ends) × (length (now head) ≡ 512) × Onward (length (now ends)) (now next) ⌝ }
-    requires { ⌜ (length (now count) ≡ 512) × Lined (now queue) t ⌝ }
-    ensures { λ _. ⌜ length (now (count .exit)) ≡ 512 ⌝ }
+// The end of an edge, and the next edge of its list.
+fn end_of(arc: u32) -> usize
+    ensures { λ r. ⌜ r < 512 ⌝ }
 {
-    let mut size = t;
+    (arc % 512) as usize
+}
+
+fn next_of(arc: u32) -> usize
+    ensures { λ r. ⌜ r ≡ arc / 512 ⌝ }
+{
+    (arc / 512) as usize
+}
+
+// Takes the edges from `first` on off the counts.
+fn release(
+    arcs: &[u32; 1024],
+    m: usize,
+    first: usize,
+    cells: &mut [u32; 512],
+    queue: &mut [u16; 512],
+    line: Line,
+) -> Line
+    requires { ⌜ (m ≤ 1024) × Onward m (now arcs) ⌝ }
+    requires { ⌜ (length (now cells) ≡ 512) × Lined (now queue) (line .size) ⌝ }
+    ensures { λ r. ⌜ (length (now (cells .exit)) ≡ 512) × Lined (now (queue .exit)) (r .size) ⌝ }
+{
+    let mut after = line;
+    let mut j = first;
+    while j < m {
+        let arc = arcs[j];
+        after = settle(end_of(arc), m, cells, queue, after);
+        j = next_of(arc);
+    }
+    after
+}
+
+// The place after n in a queue of that size.
+fn following(n: usize, size: usize) -> usize
+    requires { ⌜ (size ≤ 512) × (n ≤ 512) ⌝ }
+    ensures { λ r. ⌜ r ≤ 512 ⌝ }
+{
+    if n < size { n + 1 } else { n }
+}
+
+// The list at place n of the queue, or m.
+fn list_at(queue: &[u16; 512], n: usize, size: usize, m: usize) -> usize
+    requires { ⌜ Lined (now queue) size ⌝ }
+{
+    if n < size { folds::wide(queue[n]) } else { m }
+}
+
+// Takes the lists, one after the other: a cluster gets its rank after all that it waited for. Turns are counted, so that it ends whatever the lists are.
+fn rank_all(arcs: &[u32; 1024], m: usize, cells: &mut [u32; 512], queue: &mut [u16; 512], t: usize)
+    requires { ⌜ (m ≤ 1024) × Onward m (now arcs) ⌝ }
+    requires { ⌜ (length (now cells) ≡ 512) × Lined (now queue) t ⌝ }
+    ensures { λ _. ⌜ length (now (cells .exit)) ≡ 512 ⌝ }
+{
+    let mut line = Line {
+        front: m,
+        size: t,
+        rank: t as u32,
+    };
     let mut n: usize = 0;
-    while n < size {
-        let first = folds::wide(queue[n]);
-        n += 1;
-        size = release(ends, head, next, first, count, queue, size);
+    let mut turns: usize = 0;
+    while turns < 1024 {
+        let first = line.front;
+        let size = line.size;
+        if first >= m {
+            if n >= size {
+                return;
+            }
+        }
+        let next = Line {
+            front: list_at(queue, n, size, m),
+            size: size,
+            rank: line.rank,
+        };
+        n = following(n, size);
+        line = release(arcs, m, first, cells, queue, next);
+        turns += 1;
     }
 }
 
 // Guesses ranks for g clusters, which `rises_by` then tries: where there is a cycle, some are left at what they wait for.
-fn guess(starts: &[u16], ends: &[u16], g: usize, rank: &mut [u16; 512])
+fn guess(starts: &[u16], ends: &[u16], g: usize, cells: &mut [u32; 512])
     requires { ⌜ Ended (now starts) (now ends) ⌝ }
     requires { ⌜ g ≤ 512 ⌝ }
-    ensures { λ _. ⌜ length (now (rank .exit)) ≡ 512 ⌝ }
+    ensures { λ _. ⌜ length (now (cells .exit)) ≡ 512 ⌝ }
 {
-    let mut head = [0u16; 512];
-    let mut next = [0u16; 1024];
+    let mut arcs = [0u32; 1024];
     let mut queue = [0u16; 512];
-    link(starts, ends, &mut head, &mut next, rank);
-    let t = line_first(rank, &head, g, &mut queue);
-    rank_all(ends, &head, &next, rank, &mut queue, t);
+    link(starts, ends, cells, &mut arcs);
+    let t = line_first(cells, g, &mut queue);
+    rank_all(&arcs, starts.len(), cells, &mut queue, t);
 }
 
 // Whether ranks can be guessed for g clusters that rise along every edge.
@@ -289,9 +372,9 @@ fn is_ranked(starts: &[u16], ends: &[u16], g: usize) -> bool
     requires { ⌜ g ≤ 512 ⌝ }
     ensures { λ r. ⌜ (r ≡ true → Acyclic (Edge (joining (now (starts .entry)) (now (ends .entry))))) ⌝ }
 {
-    let mut rank = [0u16; 512];
-    guess(starts, ends, g, &mut rank);
-    rises_by(&rank, starts, ends)
+    let mut cells = [0u32; 512];
+    guess(starts, ends, g, &mut cells);
+    rises_by(&cells, starts, ends)
 }
 
 // Whether the edges are seen to form no cycle: where thinning is likely to leave few of them they are thinned, and what is left is ranked. False says nothing.

@@ -7,17 +7,15 @@ use Rattle.cycle_test.proofs.line_first.Statement.{statement}
 use Rattle.cycle_test.proofs.line_first.Tie as tie
 
 abbrev Inv-loop : tie.InvT-loop
-Inv-loop count head g queue₀ t₀ i₀ queue t i = (i ≤ g) × Lined queue t
+Inv-loop cells g queue₀ t₀ i₀ queue t i = (i ≤ g) × Lined queue t
 
 abbrev μ-loop : tie.MeasureT-loop
-μ-loop count head g queue₀ t₀ i₀ queue t i = g - i
+μ-loop cells g queue₀ t₀ i₀ queue t i = g - i
 
 pub line-first-spec : {M : Type 1} → statement M
 line-first-spec =
     tie.close
     (tie.spec Inv-loop μ-loop
-    (λ c. search needs)
-    (λ c. search needs)
     (λ c. search needs)
     (λ c. search needs)
     (λ c. search needs)

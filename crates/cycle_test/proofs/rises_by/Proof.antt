@@ -1,5 +1,5 @@
 -- the first j edges go up by the ranks of their ends
-use Prim.Native.Nat.{ℕ, _≤_, _<_, _-_}
+use Prim.Native.Nat.{ℕ, _≤_, _<_, _-_, _%_}
 use native.Mathlib.Omega.{arith}
 use lib.ListN.{length, getD}
 use Rattle.graph.specs.Graph.{via}
@@ -10,10 +10,10 @@ use Rattle.cycle_test.proofs.rises_by.Statement.{statement}
 use Rattle.cycle_test.proofs.rises_by.Tie as tie
 
 abbrev Inv-loop : tie.InvT-loop
-Inv-loop rank starts ends j₀ j = (j ≤ length starts) × ((i : ℕ) → i < j → via rank starts i < via rank ends i)
+Inv-loop cells starts ends j₀ j = (j ≤ length starts) × ((i : ℕ) → i < j → via cells starts i % 65536 < via cells ends i % 65536)
 
 abbrev μ-loop : tie.MeasureT-loop
-μ-loop rank starts ends j₀ j = length starts - j
+μ-loop cells starts ends j₀ j = length starts - j
 
 pub rises-by-spec : {M : Type 1} → statement M
 rises-by-spec =
@@ -30,4 +30,4 @@ rises-by-spec =
     (λ c. search needs)
     (λ c. search needs)
     (λ c. let l = c .before .before .before .before .before .before .loop in (omega arith, λ i h. either (eq-or-ne i (l .j)) (λ q. rw (q, ← c .before .before .before .before .end-at .ensures .is, ← c .before .before .before .end-at2 .ensures .is) (c .if1 .left)) (λ n. l .inv .1 i (omega arith))))
-    (λ c. λ _. let a = c .before .before .before .before .args in ranks-free (a .starts .now) (a .ends .now) (λ v. getD (a .rank .now) v 0) (λ i l. c .before .loop .inv .1 i (omega arith))))
+    (λ c. λ _. let a = c .before .before .before .before .args in ranks-free (a .starts .now) (a .ends .now) (λ v. getD (a .cells .now) v 0 % 65536) (λ i l. c .before .loop .inv .1 i (omega arith))))

@@ -1,7 +1,6 @@
 -- where the r edges that are left form no cycle, none do
-use Rattle.cycle_test.proofs.Thins.{marked-front, thinned, rest-first, rest-next}
+use Rattle.cycle_test.proofs.Thins.{thinned, rest-next}
 use Rattle.cycle_test.specs.Thin.{Rest}
-use lib.ListN.{length}
 use native.Mathlib.Omega.{arith}
 use Prim.Native.Nat.{_≤_}
 use borrow.Author.Needs.{needs}
@@ -14,25 +13,13 @@ Inv-loop starts ends left from₀ to₀ q₀ r₀ from to q r = (r ≤ q) × (q 
 abbrev μ-loop : tie.MeasureT-loop
 μ-loop starts ends left from₀ to₀ q₀ r₀ from to q r = q
 
--- where the call began, seen from after the copies
-abbrev start : tie.After-copy2 Inv-loop μ-loop → tie.Start Inv-loop μ-loop
-start c = c .before .before .before .before .before .before
-
--- what the copies hold
-rest : (c : tie.After-copy2 Inv-loop μ-loop) → let a = start c .args in
-    Rest (a .starts .now) (a .ends .now) (c .before .before .copy .last .1 .0) (c .copy2 .last .1 .0) (length (a .starts .now))
-rest c = rest-first (start c .pre .0) (c .before .before .copy .ensures) (c .copy2 .ensures)
-
 pub thin-all-spec : {M : Type 1} → statement M
 thin-all-spec =
     tie.close
     (tie.spec Inv-loop μ-loop
-    (λ c κs. let p = c .before .before .before .pre in (p .0 .from .few, p .1 .1 .0))
-    (λ c κs. let p = c .before .before .before .before .before .pre in (p .0 .to .few, p .1 .1 .1))
-    (λ c κs. let d = c .before .before in (rest d .held, start d .pre .1 .0 .tall))
-    (λ c. let d = c .before .before .before in
-    let p = start d .pre in
-    let t = thinned (rest d .held) (marked-front (d .before .before .copy .ensures .1) (p .1 .0)) (c .sift .ensures) in (t .few, p .0 .from .few, rest-next (rest d) t))
+    (λ c κs. let p = c .before .before .before .before .pre in (p .0, (p .1 .0 .tall, p .1 .1 .0, p .1 .1 .1)))
+    (λ c. let p = c .before .before .before .before .before .pre in
+    let K = c .sift .ensures in (K .few, p .0 .from .few, record { held = K .held; free = thinned (p .1 .0) K }))
     (λ c. search needs)
     (λ c. search needs)
     (λ c κs. c .before .before .before .loop .inv .2 .held)
