@@ -210,19 +210,22 @@ fn median(times: &mut [f64]) -> f64 {
     times[times.len() / 2]
 }
 
-/// The median microseconds of each call, one of each a turn. Their order is drawn anew for each turn: what a call finds
-/// in the caches is what the one before it left there.
-fn medians(calls: &[Call], l: &Lists, turns: usize) -> Vec<f64> {
+/// The median microseconds of each call for each kit. A turn goes over all kits, one call of each a kit, so that no kit's
+/// branches are learnt: a kit is loaded, or a wire drawn, now and then. The order of the calls is drawn anew each time: what
+/// a call finds in the caches is what the one before it left there.
+fn medians(calls: &[Call], kits: &[Lists], turns: usize) -> Vec<Vec<f64>> {
     let (mut outcome, mut r) = (Outcome::new(), Rng::new(0, 0));
     let mut order: Vec<usize> = (0..calls.len()).collect();
-    let mut times = vec![Vec::with_capacity(turns); calls.len()];
+    let mut times = vec![vec![Vec::with_capacity(turns); calls.len()]; kits.len()];
     for _ in 0..turns {
-        r.shuffle(&mut order);
-        for &c in &order {
-            times[c].push(timed(calls[c].run, l, &mut outcome));
+        for (l, times) in kits.iter().zip(&mut times) {
+            r.shuffle(&mut order);
+            for &c in &order {
+                times[c].push(timed(calls[c].run, l, &mut outcome));
+            }
         }
     }
-    times.iter_mut().map(|t| median(t)).collect()
+    times.iter_mut().map(|kit| kit.iter_mut().map(|t| median(t)).collect()).collect()
 }
 
 /// Whether the splits, or the checks, give different outcomes.
@@ -301,7 +304,7 @@ struct Row {
 }
 
 impl Row {
-    fn measure(name: String, l: &Lists, calls: &[Call], turns: usize) -> Row {
+    fn new(name: String, l: &Lists, calls: &[Call], times: Vec<f64>) -> Row {
         let mut o = Outcome::new();
         reference(l, &mut o);
         Row {
@@ -311,7 +314,7 @@ impl Row {
             refused: o.number != 0,
             passes: passes_of(l),
             stacks: calls.iter().map(|call| stack_of(call.run, l)).collect(),
-            times: medians(calls, l, turns),
+            times,
         }
     }
 
@@ -423,15 +426,17 @@ fn main() {
     let mut files: Vec<_> =
         std::fs::read_dir(&args[1]).expect("a folder").map(|f| f.unwrap().path()).collect();
     files.sort();
-    let (mut figures, mut different) = (Figures { calls: calls.clone(), rows: Vec::new() }, 0);
-    for file in &files {
-        let (l, name) = (load(file), file.file_stem().unwrap().to_string_lossy().into_owned());
-        if differ(&calls, &l, false) || differ(&calls, &l, true) {
+    let kits: Vec<Lists> = files.iter().map(|file| load(file)).collect();
+    let (mut rows, mut different) = (Vec::new(), 0);
+    for ((file, l), times) in files.iter().zip(&kits).zip(medians(&calls, &kits, turns)) {
+        let name = file.file_stem().unwrap().to_string_lossy().into_owned();
+        if differ(&calls, l, false) || differ(&calls, l, true) {
             different += 1;
             println!("{name}: the answers differ");
         }
-        figures.rows.push(Row::measure(name, &l, &calls, turns));
+        rows.push(Row::new(name, l, &calls, times));
     }
+    let figures = Figures { calls: calls.clone(), rows };
     let path = Path::new(&args[1]).with_file_name("times.txt");
     std::fs::write(&path, figures.text(turns)).expect("a file for the times");
 

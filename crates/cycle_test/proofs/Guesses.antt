@@ -62,18 +62,21 @@ module _ {k a : ℕ} (cells : List ℕ) (lk : k < 1024) (la : a < length cells) 
 pub filling-down : {m k a b : ℕ} {cells arcs : List ℕ} → k < 1024 → a < 512 → b < 512 → Filling m (k + 1) cells arcs
     → (getD cells a 0 ≤ 67109888) × (getD (set cells a (k * 65536 + getD cells a 0 % 65536)) b 0 < 67109888)
     × Filling m k (set (set cells a (k * 65536 + getD cells a 0 % 65536)) b (getD (set cells a (k * 65536 + getD cells a 0 % 65536)) b 0 + 1)) (set arcs k (getD cells a 0 / 65536 * 512 + b))
-filling-down {m} {k} {a} {b} {cells} {arcs} lk la lb F =
-    (omega (arith, F .small a la), omega (arith, headed-room cells lk ia (F .heads) (F .small) b lb .1), record {
-      tall = simp length-set (F .tall);
-      long = simp length-set (F .long);
-      heads = λ v lv. counted-room cells lk ia (F .heads) (F .small) lb (F .tall) v lv .0;
-      small = λ v lv. counted-room cells lk ia (F .heads) (F .small) lb (F .tall) v lv .1;
-      later = λ i l h.
-          either (eq-or-ne i k)
-          (λ q. rw (q, getD-set-same arcs k x 0 (omega (arith, F .long)), digits-div (getD cells a 0 / 65536) lb)
-              (let z : k + 1 ≤ getD cells a 0 / 65536 = le-div-iff-mul-le {k = 65536} {x = k + 1} {y = getD cells a 0} (omega arith) .1 (F .heads a la) in omega arith))
-          (λ n. rw (getD-set-other arcs k i x 0 n) (F .later i (omega arith) h));
-    })
+filling-down {m} {k} {a} {b} {cells} {arcs} lk la lb F = (
+  omega (arith, F .small a la),
+  omega (arith, headed-room cells lk ia (F .heads) (F .small) b lb .1),
+  record {
+    tall = simp length-set (F .tall);
+    long = simp length-set (F .long);
+    heads = λ v lv. counted-room cells lk ia (F .heads) (F .small) lb (F .tall) v lv .0;
+    small = λ v lv. counted-room cells lk ia (F .heads) (F .small) lb (F .tall) v lv .1;
+    later = λ i l h.
+        either (eq-or-ne i k)
+        (λ q. rw (q, getD-set-same arcs k x 0 (omega (arith, F .long)), digits-div (getD cells a 0 / 65536) lb)
+        (let z : k + 1 ≤ getD cells a 0 / 65536 = le-div-iff-mul-le {k = 65536} {x = k + 1} {y = getD cells a 0} (omega arith) .1 (F .heads a la) in omega arith))
+        (λ n. rw (getD-set-other arcs k i x 0 n) (F .later i (omega arith) h));
+  },
+)
   where
     ia : a < length cells
     ia = omega (arith, F .tall)

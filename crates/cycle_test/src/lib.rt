@@ -11,7 +11,7 @@ ghost use Rattle.cycle_test.specs.Thin.{Clusters, Marked, Held, Kept, Si
 ghost use Rattle.cycle_test.specs.Guess.{Onward, Lined};
 
 // Whether every edge goes up in number: then they form no cycle.
-fn rises(starts: &[u16], ends: &[u16]) -> bool
+pub fn rises(starts: &[u16], ends: &[u16]) -> bool
     requires { ⌜ Ended (now starts) (now ends) ⌝ }
     ensures { λ r. ⌜ (r ≡ true → Acyclic (Edge (joining (now (starts .entry)) (now (ends .entry))))) ⌝ }
 {
@@ -404,9 +404,6 @@ pub fn find_cycle(starts: &[u16], ends: &[u16], left: &[u8; 512], g: usize) -> u
     requires { ⌜ g ≤ 512 ⌝ }
     ensures { λ r. ⌜ r ≡ lowestOnCycle (joining (now (starts .entry)) (now (ends .entry))) g ⌝ }
 {
-    if rises(starts, ends) {
-        return g;
-    }
     if is_free(starts, ends, left, g) {
         return g;
     }

@@ -1,8 +1,8 @@
 // The causes of refusal and checks 1 to 8 of document 01.
 ghost use mathlib.Core.Path.{_≡_};
 ghost use Prim.Native.Nat.{ℕ, _<_, _≤_};
-ghost use lib.ListN.{length, getD};
-ghost use mathlib.Core.Bool.{_||_};
+ghost use lib.ListN.{length, getD, set};
+ghost use mathlib.Core.Bool.{true, _||_};
 ghost use lib.Dec.{eqb, ltb, leb};
 ghost use Rattle.folds.specs.Fold.{when, countTo, firstTo};
 ghost use Rattle.graph.specs.Graph.{graphOf};
@@ -235,24 +235,37 @@ fn try_edge(starts: &[u16], ends: &[u16], j: usize, stride: usize, seen: &mut [u
     old == new
 }
 
-// Tries the edges from the lowest up, counts them and marks what they leave, to the first that repeats an earlier one. It asks nothing of those past it.
+// Marks what edge j leaves, where that is wanted.
+fn note(wanted: bool, starts: &[u16], j: usize, left: &mut [u8; 512])
+    requires { ⌜ (j < length (now starts)) × (getD (now starts) j 0 < 512) × (length (now left) ≡ 512) ⌝ }
+    ensures { λ _. ⌜ length (now (left .exit)) ≡ 512 ⌝ }
+    ensures { λ _. ⌜ (wanted ≡ true → now (left .exit) ≡ set (now (left .entry)) (getD (now (starts .entry)) j 0) 1) ⌝ }
+{
+    if wanted {
+        left[folds::at16(starts, j)] = 1;
+    }
+}
+
+// Tries the edges from the lowest up, counts them and, where that is wanted, marks what they leave, to the first that repeats an earlier one. It asks nothing
+// of those past it.
 fn first_repeat(
     starts: &[u16],
     ends: &[u16],
     stride: usize,
     seen: &mut [u64],
+    wanted: bool,
     left: &mut [u8; 512],
 ) -> Repeated
     requires { ⌜ WordsRoom (now starts) (now ends) stride (length (now seen)) ⌝ }
     requires { ⌜ ((w : ℕ) → getD (now seen) w 0 ≡ 0) ⌝ }
     requires { ⌜ length (now left) ≡ 512 ⌝ }
     ensures { λ r. ⌜ Found (now (starts .entry)) (now (ends .entry)) (r .place) (r .tried) ⌝ }
-    ensures { λ r. ⌜ Marked (now (starts .entry)) (r .tried) (now (left .exit)) ⌝ }
+    ensures { λ r. ⌜ (wanted ≡ true → Marked (now (starts .entry)) (r .tried) (now (left .exit))) ⌝ }
 {
     let mut tried: usize = 0;
     while tried < starts.len() {
         let j = tried;
-        left[folds::at16(starts, j)] = 1;
+        note(wanted, starts, j, left);
         tried += 1;
         if try_edge(starts, ends, j, stride, seen) {
             return Repeated {
@@ -267,23 +280,29 @@ fn first_repeat(
     }
 }
 
-// Where the first repeated edge is, and how many were tried; what these leave is marked. Fewer vertices, fewer words.
-fn find_repeat(n: usize, starts: &[u16], ends: &[u16], left: &mut [u8; 512]) -> Repeated
+// Where the first repeated edge is, and how many were tried; what these leave is marked, where that is wanted. Fewer vertices, fewer words.
+fn find_repeat(
+    n: usize,
+    starts: &[u16],
+    ends: &[u16],
+    wanted: bool,
+    left: &mut [u8; 512],
+) -> Repeated
     requires { ⌜ Fits n (now starts) (now ends) ⌝ }
     ensures { λ r. ⌜ Found (now (starts .entry)) (now (ends .entry)) (r .place) (r .tried) ⌝ }
-    ensures { λ r. ⌜ Marked (now (starts .entry)) (r .tried) (now (left .exit)) ⌝ }
+    ensures { λ r. ⌜ (wanted ≡ true → Marked (now (starts .entry)) (r .tried) (now (left .exit))) ⌝ }
 {
     *left = [0; 512];
     if n <= 64 {
         let mut seen = [0u64; 64];
-        return first_repeat(starts, ends, 1, &mut seen, left);
+        return first_repeat(starts, ends, 1, &mut seen, wanted, left);
     }
     if n <= 256 {
         let mut seen = [0u64; 1024];
-        return first_repeat(starts, ends, 4, &mut seen, left);
+        return first_repeat(starts, ends, 4, &mut seen, wanted, left);
     }
     let mut seen = [0u64; 4096];
-    first_repeat(starts, ends, 8, &mut seen, left)
+    first_repeat(starts, ends, 8, &mut seen, wanted, left)
 }
 
 // Checks 1 to 6: at most `most` vertices; `room` is the caller's verdict of check 4.
@@ -366,7 +385,7 @@ fn check_order(
     ensures { λ r. ⌜ OrderLeft (r .verdict) n (now (starts .entry)) (now (ends .entry)) (now (order .entry)) (now (order .exit)) (now (levels .exit)) (now (head .exit)) (now (next .exit)) ⌝ }
 {
     let mut left = [0u8; 512];
-    let found = find_repeat(n, starts, ends, &mut left);
+    let found = find_repeat(n, starts, ends, false, &mut left);
     if found.place < starts.len() {
         return refuse_repeat(found);
     }
@@ -374,21 +393,22 @@ fn check_order(
     check_cycle(v, n, found.tried)
 }
 
-// Checks 7 and 8.
+// Checks 7 and 8. Where all edges go up in number, they form no cycle, and nothing need be marked.
 fn check_edges(n: usize, starts: &[u16], ends: &[u16]) -> Checked
     requires { ⌜ Fits n (now starts) (now ends) ⌝ }
     ensures { λ r. ⌜ (r .verdict ≡ repeatsFrom n (now (starts .entry)) (now (ends .entry))) × (r .tried ≡ triedOf (now (starts .entry)) (now (ends .entry))) ⌝ }
 {
+    let rises = cycle_test::rises(starts, ends);
     let mut left = [0u8; 512];
-    let found = find_repeat(n, starts, ends, &mut left);
+    let found = find_repeat(n, starts, ends, !rises, &mut left);
     if found.place < starts.len() {
         return refuse_repeat(found);
     }
-    check_cycle(
-        cycle_test::find_cycle(starts, ends, &left, n),
-        n,
-        found.tried,
-    )
+    if rises {
+        return check_cycle(n, n, found.tried);
+    }
+    let v = cycle_test::find_cycle(starts, ends, &left, n);
+    check_cycle(v, n, found.tried)
 }
 
 // Checks 1 to 8. Where they pass, the topological order of the vertices is left in the front of `order`, their levels in `levels`,

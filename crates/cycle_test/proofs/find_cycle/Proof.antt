@@ -10,8 +10,6 @@ find-cycle-spec =
     tie.close
     (tie.spec
     (λ c κs. search needs)
-    (λ c. sym (lowest-none _ _ (c .before .before .before .before .pre .1 .1 .0) (c .before .rises .ensures (c .if1 .taken))))
-    (λ c κs. search needs)
-    (λ c. sym (lowest-none _ _ (c .before .before .before .before .before .before .pre .1 .1 .0) (c .before .is-free .ensures (c .if2 .taken))))
+    (λ c. sym (lowest-none _ _ (c .before .before .before .before .pre .1 .1 .0) (c .before .is-free .ensures (c .if1 .taken))))
     (λ c κs. search needs)
     (λ c. search needs))

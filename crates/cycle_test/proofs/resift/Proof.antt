@@ -44,8 +44,9 @@ resift-spec =
     let l = t .before .loop in
     let K = l .inv .1 in
     let P = c .keep .ensures in
-    let U = l .inv .2 in
-    (omega arith,
-    sifting-next _ _ _ K (U .0 .rest (l .j) (omega arith)) (U .1 .rest (l .j) (omega arith)) (place t) (start-low t) (end-low t) (ap (λ (x : ℕ). getD (t .before .before .args .left .now) x 0) (w .wide .ensures)) P,
-    unmoved-next (K .few) P (U .0) (U .1)))
+    let U = l .inv .2 in (
+      omega arith,
+      sifting-next _ _ _ K (U .0 .rest (l .j) (omega arith)) (U .1 .rest (l .j) (omega arith)) (place t) (start-low t) (end-low t) (ap (λ (x : ℕ). getD (t .before .before .args .left .now) x 0) (w .wide .ensures)) P,
+      unmoved-next (K .few) P (U .0) (U .1),
+    ))
     (λ c. let l = c .before .loop .inv in sifting-end _ _ _ (l .0) (c .loop-test .left) (l .1)))

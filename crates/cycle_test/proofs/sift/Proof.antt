@@ -37,7 +37,8 @@ sift-spec =
     (λ c. let w = c .before .before .before .before .before .before in
     let t = w .before in
     let E = start t .pre .0 in
-    let h = t .loop-test .taken in
-    (omega arith,
-    sifting-next _ _ _ (t .before .loop .inv .1) refl refl (omega (arith, E .from .few, h)) (E .from .low _ h) (E .to .low _ (omega (arith, E .same, h))) (ap (λ (x : ℕ). getD (start t .args .left .now) x 0) (w .end-at .ensures .is)) (c .keep .ensures)))
+    let h = t .loop-test .taken in (
+      omega arith,
+      sifting-next _ _ _ (t .before .loop .inv .1) refl refl (omega (arith, E .from .few, h)) (E .from .low _ h) (E .to .low _ (omega (arith, E .same, h))) (ap (λ (x : ℕ). getD (start t .args .left .now) x 0) (w .end-at .ensures .is)) (c .keep .ensures),
+    ))
     (λ c. let l = c .before .loop .inv in sifting-end _ _ _ (l .0) (c .loop-test .left) (l .1)))
