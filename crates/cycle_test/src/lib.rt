@@ -1,7 +1,7 @@
 // The lowest cluster on a cycle, where no order is wanted. Most graphs have no cycle, and numbers that rise along every edge show it, whoever found them.
 ghost use mathlib.Core.Path.{_≡_};
 ghost use mathlib.Core.Bool.{true};
-ghost use Prim.Native.Nat.{_/_, _<_, _≤_};
+ghost use Prim.Native.Nat.{_/_, _%_, _<_, _≤_};
 ghost use lib.ListN.{length};
 ghost use Rattle.graph.specs.Walk.{Acyclic};
 ghost use Rattle.graph.specs.Graph.{joining, Edge, Inside};
@@ -25,21 +25,28 @@ pub fn rises(starts: &[u16], ends: &[u16]) -> bool
     true
 }
 
-// Whether every edge goes up by the ranks of its ends, whoever gave them: a rank is the low half of a cell.
+// 1 where the rank in the low half of y is not above that of x, else 0: a number, so that a count needs no branch.
+fn falls(x: u32, y: u32) -> u16
+    ensures { λ r. ⌜ (r ≤ 1) × (r ≡ 0 → x % 65536 < y % 65536) ⌝ }
+{
+    if y % 65536 <= x % 65536 { 1 } else { 0 }
+}
+
+// Whether every edge goes up by the ranks in the low halves of the cells of its ends, whoever gave them.
 fn rises_by(cells: &[u32; 512], starts: &[u16], ends: &[u16]) -> bool
     requires { ⌜ Ended (now starts) (now ends) ⌝ }
+    requires { ⌜ length (now cells) ≡ 512 ⌝ }
     ensures { λ r. ⌜ (r ≡ true → Acyclic (Edge (joining (now (starts .entry)) (now (ends .entry))))) ⌝ }
 {
+    let mut sum: u16 = 0;
     let mut j: usize = 0;
     while j < starts.len() {
         let a = graph::end_at(starts, j);
         let b = graph::end_at(ends, j);
-        if cells[b] % 65536 <= cells[a] % 65536 {
-            return false;
-        }
+        sum += falls(cells[a], cells[b]);
         j += 1;
     }
-    true
+    sum == 0
 }
 
 // Marks what the first q edges leave.
@@ -62,7 +69,7 @@ fn one_if(x: u8) -> usize
     if x == 0 { 0 } else { 1 }
 }
 
-// Whether thinning would leave more than half of some edges, 64 at most and spread over all. It decides what is tried, not what is found.
+// Whether thinning would leave more than eleven in twenty of some edges, 64 at most and spread over all. It decides what is tried, not what is found.
 fn is_thick(ends: &[u16], left: &[u8; 512]) -> bool
     requires { ⌜ Named (now ends) ⌝ }
     requires { ⌜ length (now left) ≡ 512 ⌝ }
@@ -76,7 +83,7 @@ fn is_thick(ends: &[u16], left: &[u8; 512]) -> bool
         tried += 1;
         j += step;
     }
-    2 * kept > tried
+    20 * kept > 11 * tried
 }
 
 // Puts the edge from a to b at place t, if b is marked. Answers how many edges there are then.
@@ -216,57 +223,22 @@ fn line_first(cells: &[u32; 512], g: usize, queue: &mut [u16; 512]) -> usize
     let mut t: usize = 0;
     let mut i: usize = 0;
     while i < g {
-        t = line_up(cells[i], queue, t);
+        let cell = cells[i];
+        queue[t] = list_of(cell);
+        t += none_left(cell);
         i += 1;
     }
     t
 }
 
-// Lists that are to be taken, by their first edges: the one in front, where that is an edge at all, and then those in a queue. The front is not in memory,
-// since a list that is alone there is wanted at once. `rank` is the last that was given.
-struct Line {
-    front: usize,
-    size: usize,
-    rank: u32,
-}
-
-// Whether a list comes to the front: 1 where it is ready and there is no edge in front, of m.
-fn leads(ready: usize, front: usize, m: usize) -> usize
-    ensures { λ r. ⌜ r ≤ ready ⌝ }
+// A cell that waits for fewer edges, or, where it waits for none, a rank: its place in the queue, from 1. Those that never waited stay at 0.
+fn cell_or_rank(cell: u32, t: usize) -> u32
+    requires { ⌜ t ≤ 512 ⌝ }
 {
-    if front < m { 0 } else { ready }
-}
-
-// One of two numbers, without a branch.
-fn either(first: usize, x: usize, y: usize) -> usize {
-    if first == 1 { x } else { y }
-}
-
-// What a cell becomes: its rank, where it waits for nothing.
-fn rank_or_cell(ready: usize, rank: u32, cell: u32) -> u32 {
-    if ready == 1 { rank } else { cell }
-}
-
-// Takes an edge into b, one of m, off its count. Where that was the last, b gets the next rank, and its list comes to the front or into the queue.
-fn settle(b: usize, m: usize, cells: &mut [u32; 512], queue: &mut [u16; 512], line: Line) -> Line
-    requires { ⌜ (b < 512) × (length (now cells) ≡ 512) × Lined (now queue) (line .size) ⌝ }
-    ensures { λ r. ⌜ (length (now (cells .exit)) ≡ 512) × Lined (now (queue .exit)) (r .size) ⌝ }
-{
-    let size = line.size;
-    if size >= 512 {
-        return line;
-    }
-    let cell = std::num::wrapping_sub_u32(cells[b], 1);
-    let list = list_of(cell);
-    let ready = none_left(cell);
-    let first = leads(ready, line.front, m);
-    let rank = std::num::wrapping_add_u32(line.rank, ready as u32);
-    queue[size] = list;
-    cells[b] = rank_or_cell(ready, rank, cell);
-    Line {
-        front: either(first, folds::wide(list), line.front),
-        size: size + ready - first,
-        rank: rank,
+    if cell % 65536 == 0 {
+        t as u32 + 1
+    } else {
+        cell
     }
 }
 
@@ -283,73 +255,44 @@ fn next_of(arc: u32) -> usize
     (arc / 512) as usize
 }
 
-// Takes the edges from `first` on off the counts.
+// Takes the edges from `first` on off the counts, and puts the lists of those that then wait for nothing into the queue.
 fn release(
     arcs: &[u32; 1024],
     m: usize,
     first: usize,
     cells: &mut [u32; 512],
     queue: &mut [u16; 512],
-    line: Line,
-) -> Line
+    t: usize,
+) -> usize
     requires { ⌜ (m ≤ 1024) × Onward m (now arcs) ⌝ }
-    requires { ⌜ (length (now cells) ≡ 512) × Lined (now queue) (line .size) ⌝ }
-    ensures { λ r. ⌜ (length (now (cells .exit)) ≡ 512) × Lined (now (queue .exit)) (r .size) ⌝ }
+    requires { ⌜ (length (now cells) ≡ 512) × Lined (now queue) t ⌝ }
+    ensures { λ r. ⌜ (length (now (cells .exit)) ≡ 512) × Lined (now (queue .exit)) r ⌝ }
 {
-    let mut after = line;
+    let mut size = t;
     let mut j = first;
     while j < m {
         let arc = arcs[j];
-        after = settle(end_of(arc), m, cells, queue, after);
+        let b = end_of(arc);
+        let cell = std::num::wrapping_sub_u32(cells[b], 1);
+        cells[b] = cell_or_rank(cell, size);
+        size = line_up(cell, queue, size);
         j = next_of(arc);
     }
-    after
+    size
 }
 
-// The place after n in a queue of that size.
-fn following(n: usize, size: usize) -> usize
-    requires { ⌜ (size ≤ 512) × (n ≤ 512) ⌝ }
-    ensures { λ r. ⌜ r ≤ 512 ⌝ }
-{
-    if n < size { n + 1 } else { n }
-}
-
-// The list at place n of the queue, or m.
-fn list_at(queue: &[u16; 512], n: usize, size: usize, m: usize) -> usize
-    requires { ⌜ Lined (now queue) size ⌝ }
-{
-    if n < size { folds::wide(queue[n]) } else { m }
-}
-
-// Takes the lists, one after the other: a cluster gets its rank after all that it waited for. Turns are counted, so that it ends whatever the lists are.
+// Takes the lists from the queue, one after the other: a cluster gets its rank after all that it waited for.
 fn rank_all(arcs: &[u32; 1024], m: usize, cells: &mut [u32; 512], queue: &mut [u16; 512], t: usize)
     requires { ⌜ (m ≤ 1024) × Onward m (now arcs) ⌝ }
     requires { ⌜ (length (now cells) ≡ 512) × Lined (now queue) t ⌝ }
     ensures { λ _. ⌜ length (now (cells .exit)) ≡ 512 ⌝ }
 {
-    let mut line = Line {
-        front: m,
-        size: t,
-        rank: t as u32,
-    };
+    let mut size = t;
     let mut n: usize = 0;
-    let mut turns: usize = 0;
-    while turns < 1024 {
-        let first = line.front;
-        let size = line.size;
-        if first >= m {
-            if n >= size {
-                return;
-            }
-        }
-        let next = Line {
-            front: list_at(queue, n, size, m),
-            size: size,
-            rank: line.rank,
-        };
-        n = following(n, size);
-        line = release(arcs, m, first, cells, queue, next);
-        turns += 1;
+    while n < size {
+        let first = folds::wide(queue[n]);
+        n += 1;
+        size = release(arcs, m, first, cells, queue, size);
     }
 }
 

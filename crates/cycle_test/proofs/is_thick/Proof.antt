@@ -27,4 +27,5 @@ is-thick-spec =
     (λ c. search needs)
     (λ c. search needs)
     (λ c. search needs)
+    (λ c. search needs)
     (λ c. search needs))

@@ -1,5 +1,6 @@
--- the queue has room
+-- no more lists than clusters
 use Rattle.cycle_test.specs.Guess.{Lined}
+use lib.ListN.{length-set}
 use native.Mathlib.Omega.{arith}
 use Prim.Native.Nat.{_≤_, _-_}
 use borrow.Author.Needs.{needs}
@@ -7,7 +8,7 @@ use Rattle.cycle_test.proofs.line_first.Statement.{statement}
 use Rattle.cycle_test.proofs.line_first.Tie as tie
 
 abbrev Inv-loop : tie.InvT-loop
-Inv-loop cells g queue₀ t₀ i₀ queue t i = (i ≤ g) × Lined queue t
+Inv-loop cells g queue₀ t₀ i₀ queue t i = (i ≤ g) × (t ≤ i) × Lined queue t
 
 abbrev μ-loop : tie.MeasureT-loop
 μ-loop cells g queue₀ t₀ i₀ queue t i = g - i
@@ -22,5 +23,11 @@ line-first-spec =
     (λ c κs. search needs)
     (λ c. search needs)
     (λ c. search needs)
+    (λ c κs. search needs)
     (λ c. search needs)
+    (λ c. search needs)
+    (λ c. search needs)
+    (λ c. let l = c .before .before .before .before .loop .inv in
+    let r = c .none-left .ensures in
+    (omega arith, omega (arith, l .1), record { long = simp length-set (l .2 .long); few = omega (arith, l .1, c .before .before .before .loop-test .taken, c .before .before .before .before .before .pre .0) }))
     (λ c. search needs))

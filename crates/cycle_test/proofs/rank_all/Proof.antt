@@ -9,10 +9,14 @@ use Rattle.cycle_test.proofs.rank_all.Statement.{statement}
 use Rattle.cycle_test.proofs.rank_all.Tie as tie
 
 abbrev Inv-loop : tie.InvT-loop
-Inv-loop arcs m cells₀ queue₀ t line₀ n₀ turns₀ cells queue line n turns = (turns ≤ 1024) × (n ≤ 512) × (length cells ≡ 512) × Lined queue (line .size)
+Inv-loop arcs m cells₀ queue₀ t size₀ n₀ cells queue size n = (n ≤ 512) × (length cells ≡ 512) × Lined queue size
 
 abbrev μ-loop : tie.MeasureT-loop
-μ-loop arcs m cells₀ queue₀ t line₀ n₀ turns₀ cells queue line n turns = 1024 - turns
+μ-loop arcs m cells₀ queue₀ t size₀ n₀ cells queue size n = 512 - n
+
+-- where a turn begins, seen from its end
+abbrev turn : tie.After-release Inv-loop μ-loop → tie.In-loop Inv-loop μ-loop
+turn c = c .before .before .before .before .before
 
 pub rank-all-spec : {M : Type 1} → statement M
 rank-all-spec =
@@ -21,10 +25,9 @@ rank-all-spec =
     (λ c. search needs)
     (λ c. search needs)
     (λ c. search needs)
-    (λ c κs. c .before .before .before .loop .inv .3)
-    (λ c κs. let l = c .before .before .before .before .loop .inv in (l .3 .few, l .1))
-    (λ c κs. let l = c .before .before .before .before .before .before .before in (l .before .pre .0, (l .loop .inv .2, l .loop .inv .3)))
+    (λ c κs. search needs)
     (λ c. search needs)
-    (λ c. search needs)
-    (λ c. let r = c .release .ensures in (omega arith, c .before .before .before .following .ensures, r .0, r .1))
+    (λ c κs. search needs)
+    (λ c. let t = turn c in omega (arith, t .loop-test .taken, t .before .loop .inv .2 .few))
+    (λ c. let t = turn c in (omega (arith, t .loop-test .taken, t .before .loop .inv .2 .few), c .release .ensures .0, c .release .ensures .1))
     (λ c. search needs))
