@@ -205,15 +205,16 @@ fn timed(run: Run, l: &Lists, o: &mut Outcome) -> f64 {
     start.elapsed().as_secs_f64() * 1e6
 }
 
-fn median(times: &mut [f64]) -> f64 {
-    times.sort_by(f64::total_cmp);
-    times[times.len() / 2]
+fn median(values: impl Iterator<Item = f64>) -> f64 {
+    let mut sorted: Vec<f64> = values.collect();
+    sorted.sort_by(f64::total_cmp);
+    sorted[sorted.len() / 2]
 }
 
-/// The median microseconds of each call for each kit. A turn goes over all kits, one call of each a kit, so that no kit's
-/// branches are learnt: a kit is loaded, or a wire drawn, now and then. The order of the calls is drawn anew each time: what
-/// a call finds in the caches is what the one before it left there.
-fn medians(calls: &[Call], kits: &[Lists], turns: usize) -> Vec<Vec<f64>> {
+/// For each kit the microseconds of each call, a number a turn. A turn goes over all kits, one call of each a kit, so that no
+/// kit's branches are learnt: a kit is loaded, or a wire drawn, now and then. The order of the calls is drawn anew each time:
+/// what a call finds in the caches is what the one before it left there.
+fn measure(calls: &[Call], kits: &[Lists], turns: usize) -> Vec<Vec<Vec<f64>>> {
     let (mut outcome, mut r) = (Outcome::new(), Rng::new(0, 0));
     let mut order: Vec<usize> = (0..calls.len()).collect();
     let mut times = vec![vec![Vec::with_capacity(turns); calls.len()]; kits.len()];
@@ -225,7 +226,7 @@ fn medians(calls: &[Call], kits: &[Lists], turns: usize) -> Vec<Vec<f64>> {
             }
         }
     }
-    times.iter_mut().map(|kit| kit.iter_mut().map(|t| median(t)).collect()).collect()
+    times
 }
 
 /// Whether the splits, or the checks, give different outcomes.
@@ -298,13 +299,13 @@ struct Row {
     wires: usize,
     refused: bool,
     passes: u32,
-    /// The bytes of stack and the microseconds of each call.
+    /// The bytes of stack and the microseconds of each call, a number a turn.
     stacks: Vec<usize>,
-    times: Vec<f64>,
+    turns: Vec<Vec<f64>>,
 }
 
 impl Row {
-    fn new(name: String, l: &Lists, calls: &[Call], times: Vec<f64>) -> Row {
+    fn new(name: String, l: &Lists, calls: &[Call], turns: Vec<Vec<f64>>) -> Row {
         let mut o = Outcome::new();
         reference(l, &mut o);
         Row {
@@ -314,8 +315,18 @@ impl Row {
             refused: o.number != 0,
             passes: passes_of(l),
             stacks: calls.iter().map(|call| stack_of(call.run, l)).collect(),
-            times,
+            turns,
         }
+    }
+
+    /// The median time of a call.
+    fn time(&self, call: usize) -> f64 {
+        median(self.turns[call].iter().copied())
+    }
+
+    /// The median over the turns of one call's time over another's. Both are of the same moment: a machine's pace changes.
+    fn ratio(&self, over: usize, under: usize) -> f64 {
+        median(self.turns[over].iter().zip(&self.turns[under]).map(|(a, b)| a / b))
     }
 
     fn shape(&self) -> &str {
@@ -349,7 +360,7 @@ impl Figures {
         let mut shapes: BTreeMap<&str, Ratios> = BTreeMap::new();
         let (mut splits, mut refusals) = (Ratios::default(), Ratios::default());
         for row in &self.rows {
-            let ratio = row.times[over_at] / row.times[under_at];
+            let ratio = row.ratio(over_at, under_at);
             shapes.entry(row.shape()).or_default().add(ratio, &row.name);
             let all = if row.refused { &mut refusals } else { &mut splits };
             all.add(ratio, &row.name);
@@ -368,7 +379,7 @@ impl Figures {
         };
         let (mut r, mut within) = (Ratios::default(), 0);
         for row in self.rows.iter().filter(|row| of(row)) {
-            let ratio = row.times[check] / row.times[split];
+            let ratio = row.ratio(check, split);
             r.add(ratio, &row.name);
             within += most.is_some_and(|most| ratio <= most) as usize;
         }
@@ -383,8 +394,8 @@ impl Figures {
 
     fn slowest(&self, refused: bool, call: usize) -> String {
         let of = self.rows.iter().filter(|r| r.refused == refused);
-        let row = of.max_by(|a, b| a.times[call].total_cmp(&b.times[call]));
-        row.map_or("none".to_string(), |row| format!("{:.1} ({})", row.times[call], row.name))
+        let row = of.max_by(|a, b| a.time(call).total_cmp(&b.time(call)));
+        row.map_or("none".to_string(), |row| format!("{:.1} ({})", row.time(call), row.name))
     }
 
     /// For each call its slowest kits and the most stack.
@@ -410,8 +421,8 @@ impl Figures {
             names.join(", ")
         );
         for row in &self.rows {
-            let times: Vec<String> = row.times.iter().map(|t| format!("{t:9.2}")).collect();
-            let ratio = row.times[0] / row.times[1];
+            let times: Vec<String> = (0..names.len()).map(|call| format!("{:9.2}", row.time(call))).collect();
+            let ratio = row.ratio(0, 1);
             writeln!(text, "{:<40} {} {ratio:6.2} {:5}", row.name, times.join(" "), row.passes).unwrap();
         }
         text
@@ -428,7 +439,7 @@ fn main() {
     files.sort();
     let kits: Vec<Lists> = files.iter().map(|file| load(file)).collect();
     let (mut rows, mut different) = (Vec::new(), 0);
-    for ((file, l), times) in files.iter().zip(&kits).zip(medians(&calls, &kits, turns)) {
+    for ((file, l), times) in files.iter().zip(&kits).zip(measure(&calls, &kits, turns)) {
         let name = file.file_stem().unwrap().to_string_lossy().into_owned();
         if differ(&calls, l, false) || differ(&calls, l, true) {
             different += 1;
@@ -440,7 +451,7 @@ fn main() {
     let path = Path::new(&args[1]).with_file_name("times.txt");
     std::fs::write(&path, figures.text(turns)).expect("a file for the times");
 
-    println!("medians of {turns} turns, one of each call a turn; each kit's times are in {}", path.display());
+    println!("medians of {turns} turns over all kits; each kit's times are in {}", path.display());
     for (over, under) in [("library", "reference"), ("second", "reference"), ("library", "second")] {
         figures.print_ratios(over, under);
         figures.print_ratios(&format!("{over}_check"), &format!("{under}_check"));

@@ -289,10 +289,10 @@ fn find_repeat(
     left: &mut [u8; 512],
 ) -> Repeated
     requires { ⌜ Fits n (now starts) (now ends) ⌝ }
+    requires { ⌜ length (now left) ≡ 512 ⌝ }
     ensures { λ r. ⌜ Found (now (starts .entry)) (now (ends .entry)) (r .place) (r .tried) ⌝ }
     ensures { λ r. ⌜ (wanted ≡ true → Marked (now (starts .entry)) (r .tried) (now (left .exit))) ⌝ }
 {
-    *left = [0; 512];
     if n <= 64 {
         let mut seen = [0u64; 64];
         return first_repeat(starts, ends, 1, &mut seen, wanted, left);

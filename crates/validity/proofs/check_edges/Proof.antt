@@ -1,6 +1,6 @@
 -- Check 7 and then check 8: each refuses at its place, or passes on.
 use mathlib.Core.Bool.{not}
-use mathlib.Core.Path.{sym, ap, _∙_}
+use mathlib.Core.Path.{refl, sym, ap, _∙_}
 use Rattle.topology.proofs.Reaches.{lowest-none}
 use native.Mathlib.Omega.{arith}
 use borrow.Author.Needs.{needs}
@@ -21,7 +21,7 @@ check-edges-spec =
     tie.close
     (tie.spec
     (λ c κs. fit-ended (c .before .before .pre))
-    (λ c κs. c .before .before .before .before .pre)
+    (λ c κs. (c .before .before .before .before .pre, refl))
     (λ c κs. search needs)
     (λ c. let f = c .before .before .before .find-repeat .ensures .0 in
     let r = c .refuse-repeat .ensures in (r .0 ∙ at-hit _ _ _ _ _ (f .place-is) (c .before .if1 .taken), r .1 ∙ f .count-is))

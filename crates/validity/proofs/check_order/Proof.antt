@@ -1,5 +1,5 @@
 -- Check 7 and then check 8: each refuses at its place, or passes on; where both pass, the order is left.
-use mathlib.Core.Path.{_∙_}
+use mathlib.Core.Path.{refl, _∙_}
 use borrow.Author.Needs.{needs}
 use Rattle.validity.specs.Check.{repeatsFrom}
 use Rattle.validity.proofs.Checks.{at-hit, at-pass, refused-order, order-own, cycle-own, fit-ended, fit-inside}
@@ -15,7 +15,7 @@ unfolding repeatsFrom
 check-order-spec =
     tie.close
     (tie.spec
-    (λ c κs. c .before .before .before .pre .0)
+    (λ c κs. (c .before .before .before .pre .0, refl))
     (λ c κs. search needs)
     (λ c. let f = c .before .before .before .find-repeat .ensures .0 in
     let r = c .refuse-repeat .ensures in ((r .0 ∙ at-hit _ _ _ _ _ (f .place-is) (c .before .if1 .taken), r .1 ∙ f .count-is), refused-order (r .0)))

@@ -1,6 +1,5 @@
 -- Each array has as many words as its vertices need, all 0.
 use native.Mathlib.Omega.{arith}
-use mathlib.Core.Path.{refl}
 use borrow.Author.Needs.{needs}
 use Rattle.folds.specs.Fold.{zeros}
 use Rattle.folds.proofs.Lists.{getD-zeros}
@@ -14,11 +13,11 @@ find-repeat-spec =
     tie.close
     (tie.spec
     (λ c. search needs)
-    (λ c κs. (fits-roomy _ (c .before .before .before .before .before .before .pre) (omega arith), (getD-zeros 64, refl)))
+    (λ c κs. let p = c .before .before .before .before .before .pre in (fits-roomy _ (p .0) (omega arith), (getD-zeros 64, p .1)))
     (λ c. search needs)
     (λ c. search needs)
-    (λ c κs. (fits-roomy _ (c .before .before .before .before .before .before .before .pre) (omega arith), (getD-zeros 1024, refl)))
+    (λ c κs. let p = c .before .before .before .before .before .before .pre in (fits-roomy _ (p .0) (omega arith), (getD-zeros 1024, p .1)))
     (λ c. search needs)
     (λ c. search needs)
-    (λ c κs. let F = c .before .before .before .before .before .before .before .pre in (fits-roomy _ F (F .few), (getD-zeros 4096, refl)))
+    (λ c κs. let p = c .before .before .before .before .before .before .pre in (fits-roomy _ (p .0) (p .0 .few), (getD-zeros 4096, p .1)))
     (λ c. search needs))
