@@ -11,7 +11,7 @@ use Rattle.graph.specs.Graph.{Arcs, joining, Edge}
 use Rattle.graph.specs.Links.{Named, Ended}
 use Rattle.graph.proofs.Edges.{edge-arc, arc-edge, edge-other}
 use Rattle.cycle_test.proofs.Guesses.{none-free}
-use Rattle.cycle_test.specs.Thin.{Clusters, Marked, Held, Kept, Sifting, Unmoved, Free, Thinned, Rest}
+use Rattle.cycle_test.specs.Thin.{Clusters, Marked, Held, Kept, Picking, Written, Sifting, Unmoved, Free, Thinned, Rest}
 
 -- a mark, and the marks that were there
 mark-at : (l : List ℕ) (a : ℕ) → a < length l → 0 < getD (set l a 1) a 0
@@ -58,6 +58,67 @@ clusters-more {l} {t} {a} h m la C =
       room = omega (arith, length-set l t a);
       few = omega arith;
       low = λ i z. either (eq-or-ne i t) (λ q. rw (q, getD-set-same l t a 0 h) la) (λ n. rw (getD-set-other l t i a 0 n) (C .low i (omega arith)));
+    }
+
+-- the numbers of the edges to a marked cluster
+module _ (left to : List ℕ) where
+  pub picking-none : {picked : List ℕ} → length picked ≡ 1024 → Picking left to 0 picked 0
+  picking-none e = record { long = e; few = omega arith; there = λ h l. absurd (omega arith); kept = λ i l. absurd (omega arith) }
+
+  pub picking-next : {j b t r : ℕ} {picked : List ℕ} → j < 1024 → b ≡ getD to j 0 → r ≤ 1 → (0 < getD left b 0 → r ≡ 1) → Picking left to j picked t → Picking left to (j + 1) (set picked t j) (t + r)
+  picking-next {j} {b} {t} {r} {picked} lj eb lr sure K =
+      record {
+        long = length-set picked t j ∙ K .long;
+        few = omega (arith, K .few);
+        there = λ h l.
+            either (eq-or-ne h t)
+            (λ q. rw (q, getD-set-same picked t j 0 lt) (omega arith))
+            (λ n. rw (getD-set-other picked t h j 0 n) (omega (arith, K .there h (omega arith))));
+        kept = λ i l p.
+            either (eq-or-ne i j)
+            (λ q. let s = sure (rw (eb ∙ ap (λ (x : ℕ). getD to x 0) (sym q)) p) in (t, omega arith, getD-set-same picked t j 0 lt ∙ sym q))
+            (λ n. let (h, lh, e) = K .kept i (omega arith) p in (h, omega arith, getD-set-other picked t h j 0 (λ q. omega arith) ∙ e));
+      }
+    where
+      lt : t < length picked
+      lt = omega (arith, K .long, K .few)
+
+  pub picking-end : {picked : List ℕ} {j m t : ℕ} → j ≤ m → m ≤ j → Picking left to j picked t → Picking left to m picked t
+  picking-end {j = j} {m = m} p q K = let e : j ≡ m = omega arith in rw e at K
+
+-- these edges, written out
+module _ (from to picked : List ℕ) where
+  pub written-none : {from′ to′ : List ℕ} → length from′ ≡ 1024 → length to′ ≡ 1024 → Written from to picked 0 from′ to′
+  written-none e f =
+      record { held = record { long = (e, f); starts = clusters-none; ends = clusters-none }; from-is = λ h l. absurd (omega arith); to-is = λ h l. absurd (omega arith) }
+
+  pub written-next : {t : ℕ} {from′ to′ : List ℕ} → t < 1024 → getD from (getD picked t 0) 0 < 512 → getD to (getD picked t 0) 0 < 512 → Written from to picked t from′ to′
+      → Written from to picked (t + 1) (set from′ t (getD from (getD picked t 0) 0)) (set to′ t (getD to (getD picked t 0) 0))
+  written-next {t} {from′} {to′} l la lb W =
+      record {
+        held = record {
+          long = (length-set from′ t _ ∙ W .held .long .0, length-set to′ t _ ∙ W .held .long .1);
+          starts = clusters-more lf l la (W .held .starts);
+          ends = clusters-more lt l lb (W .held .ends);
+        };
+        from-is = λ h z. either (eq-or-ne h t) (λ q. rw (q, getD-set-same from′ t _ 0 lf)) (λ n. getD-set-other from′ t h _ 0 n ∙ W .from-is h (omega arith));
+        to-is = λ h z. either (eq-or-ne h t) (λ q. rw (q, getD-set-same to′ t _ 0 lt)) (λ n. getD-set-other to′ t h _ 0 n ∙ W .to-is h (omega arith));
+      }
+    where
+      lf : t < length from′
+      lf = omega (arith, W .held .long .0)
+
+      lt : t < length to′
+      lt = omega (arith, W .held .long .1)
+
+pub sifted : {left from to picked from′ to′ : List ℕ} {m t r : ℕ} → t ≤ r → r ≤ t → Picking left to m picked r → Written from to picked t from′ to′ → Sifting left from to m from′ to′ r
+sifted {from = from} {to = to} {from′ = from′} {to′ = to′} {t = t} {r = r} p q K W =
+    let e : t ≡ r = omega arith in
+    record {
+      held = rw e at (W .held);
+      few = K .few;
+      kept = λ i l z. let (h, lh, s) = K .kept i l z in
+          (h, lh, W .from-is h (omega arith) ∙ ap (λ (x : ℕ). getD from x 0) s, W .to-is h (omega arith) ∙ ap (λ (x : ℕ). getD to x 0) s);
     }
 
 -- the edges to a marked cluster

@@ -28,6 +28,19 @@ pub record Kept (mark a b : ℕ) (from to : List ℕ) (t : ℕ) (from′ to′ :
   pub passed : mark ≡ 0 → (r ≡ t) × (from′ ≡ from) × (to′ ≡ to)
   pub stored : 0 < mark → (r ≡ t + 1) × (from′ ≡ set from t a) × (to′ ≡ set to t b)
 
+-- of the first j edges, the numbers of those to a marked cluster are among the t in the front of the list
+pub record Picking (left to : List ℕ) (j : ℕ) (picked : List ℕ) (t : ℕ) : Type 0 where
+  pub long : length picked ≡ 1024
+  pub few : t ≤ j
+  pub there : (h : ℕ) → h < t → getD picked h 0 < j
+  pub kept : (i : ℕ) → i < j → 0 < getD left (getD to i 0) 0 → (h : ℕ) × (h < t) × (getD picked h 0 ≡ i)
+
+-- the first t of these edges, written out
+pub record Written (from to picked : List ℕ) (t : ℕ) (from′ to′ : List ℕ) : Type 0 where
+  pub held : Held from′ to′ t
+  pub from-is : (h : ℕ) → h < t → getD from′ h 0 ≡ getD from (getD picked h 0) 0
+  pub to-is : (h : ℕ) → h < t → getD to′ h 0 ≡ getD to (getD picked h 0) 0
+
 -- of the first j edges, those to a marked cluster are among the t in the front of from′ and to′
 pub record Sifting (left from to : List ℕ) (j : ℕ) (from′ to′ : List ℕ) (t : ℕ) : Type 0 where
   pub held : Held from′ to′ t

@@ -1,13 +1,15 @@
 // The lowest cluster on a cycle, where no order is wanted. Most graphs have no cycle, and numbers that rise along every edge show it, whoever found them.
 ghost use mathlib.Core.Path.{_≡_};
 ghost use mathlib.Core.Bool.{true};
-ghost use Prim.Native.Nat.{_/_, _%_, _<_, _≤_};
+ghost use Prim.Native.Nat.{_+_, _/_, _%_, _<_, _≤_};
+ghost use lib.Dec.{eqb};
+ghost use Rattle.folds.specs.Fold.{pick};
 ghost use lib.ListN.{length};
 ghost use Rattle.graph.specs.Walk.{Acyclic};
 ghost use Rattle.graph.specs.Graph.{joining, Edge, Inside};
 ghost use Rattle.graph.specs.Links.{Named, Ended};
 ghost use Rattle.topology.specs.Reach.{lowestOnCycle};
-ghost use Rattle.cycle_test.specs.Thin.{Clusters, Marked, Held, Kept, Sifting, Thinned, Rest};
+ghost use Rattle.cycle_test.specs.Thin.{Clusters, Marked, Held, Kept, Picking, Sifting, Thinned, Rest};
 ghost use Rattle.cycle_test.specs.Guess.{Onward, Lined};
 
 // Whether every edge goes up in number: then they form no cycle.
@@ -64,7 +66,7 @@ fn mark(starts: &[u16; 1024], q: usize, left: &mut [u8; 512])
 
 // 1 for a mark, else 0: a number, so that a count needs no branch.
 fn one_if(x: u8) -> usize
-    ensures { λ r. ⌜ r ≤ 1 ⌝ }
+    ensures { λ r. ⌜ (r ≤ 1) × (0 < x → r ≡ 1) ⌝ }
 {
     if x == 0 { 0 } else { 1 }
 }
@@ -73,6 +75,7 @@ fn one_if(x: u8) -> usize
 fn is_thick(ends: &[u16], left: &[u8; 512]) -> bool
     requires { ⌜ Named (now ends) ⌝ }
     requires { ⌜ length (now left) ≡ 512 ⌝ }
+    ensures { λ r. ⌜ (r ≡ true → 0 < length (now (ends .entry))) ⌝ }
 {
     let step = ends.len() / 64 + 1;
     let mut kept: usize = 0;
@@ -99,6 +102,23 @@ fn keep(mark: u8, a: u16, b: u16, from: &mut [u16; 1024], to: &mut [u16; 1024], 
     t + 1
 }
 
+// Writes the numbers of the edges whose end is marked to the front of `picked`, and answers how many they are: no branch, since few are marked and each would be a surprise.
+fn choose(ends: &[u16], left: &[u8; 512], picked: &mut [u16; 1024]) -> usize
+    requires { ⌜ Named (now ends) ⌝ }
+    requires { ⌜ (length (now left) ≡ 512) × (length (now picked) ≡ 1024) ⌝ }
+    ensures { λ r. ⌜ Picking (now (left .entry)) (now (ends .entry)) (length (now (ends .entry))) (now (picked .exit)) r ⌝ }
+{
+    let mut t: usize = 0;
+    let mut j: usize = 0;
+    while j < ends.len() {
+        let b = graph::end_at(ends, j);
+        picked[t] = j as u16;
+        t += one_if(left[b]);
+        j += 1;
+    }
+    t
+}
+
 // Writes the edges whose end is marked to the front of `from` and `to`. Answers how many they are.
 fn sift(
     starts: &[u16],
@@ -111,14 +131,16 @@ fn sift(
     requires { ⌜ (length (now left) ≡ 512) × (length (now from) ≡ 1024) × (length (now to) ≡ 1024) ⌝ }
     ensures { λ r. ⌜ Sifting (now (left .entry)) (now (starts .entry)) (now (ends .entry)) (length (now (starts .entry))) (now (from .exit)) (now (to .exit)) r ⌝ }
 {
+    let mut picked = [0u16; 1024];
+    let r = choose(ends, left, &mut picked);
     let mut t: usize = 0;
-    let mut j: usize = 0;
-    while j < starts.len() {
-        let b = graph::end_at(ends, j);
-        t = keep(left[b], starts[j], ends[j], from, to, t);
-        j += 1;
+    while t < r {
+        let j = folds::wide(picked[t]);
+        from[t] = starts[j];
+        to[t] = ends[j];
+        t += 1;
     }
-    t
+    r
 }
 
 // The same in place, for the first q edges.
@@ -192,7 +214,9 @@ fn link(starts: &[u16], ends: &[u16], cells: &mut [u32; 512], arcs: &mut [u32; 1
 }
 
 // The list of edges of a cell, by its first one.
-fn list_of(cell: u32) -> u16 {
+fn list_of(cell: u32) -> u16
+    ensures { λ r. ⌜ r ≡ cell / 65536 % 65536 ⌝ }
+{
     (cell / 65536 % 65536) as u16
 }
 
@@ -234,6 +258,7 @@ fn line_first(cells: &[u32; 512], g: usize, queue: &mut [u16; 512]) -> usize
 // A cell that waits for fewer edges, or, where it waits for none, a rank: its place in the queue, from 1. Those that never waited stay at 0.
 fn cell_or_rank(cell: u32, t: usize) -> u32
     requires { ⌜ t ≤ 512 ⌝ }
+    ensures { λ r. ⌜ r ≡ pick (eqb (cell % 65536) 0) (t + 1) cell ⌝ }
 {
     if cell % 65536 == 0 {
         t as u32 + 1

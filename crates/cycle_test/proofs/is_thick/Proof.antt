@@ -1,6 +1,7 @@
 -- no more are kept than tried, and no edge is tried twice
 use native.Mathlib.Omega.{arith}
 use lib.ListN.{length}
+use borrow.Author.Tests.{ltb-true}
 use Prim.Native.Nat.{_≤_, _-_}
 use borrow.Author.Needs.{needs}
 use Rattle.cycle_test.proofs.is_thick.Statement.{statement}
@@ -28,4 +29,4 @@ is-thick-spec =
     (λ c. search needs)
     (λ c. search needs)
     (λ c. search needs)
-    (λ c. search needs))
+    (λ c. λ t. omega (arith, ltb-true)))
