@@ -13,7 +13,7 @@
  *   call may write to one of them; lists that are only read may overlap.
  *   The calls keep no pointer and no state, allocate nothing and call nothing, so
  *   they may run on several threads at once on different tables. The split writes up
- *   to about 141,000 bytes of stack, the check up to about 53,000 (bench/run prints both).
+ *   to about 141,000 bytes of stack, the check up to about 54,000 (bench/run prints both).
  *
  * What is answered
  *   Each call returns 0, or the number of the refusal (below). `answer` is never NULL and
