@@ -1,6 +1,6 @@
 -- Laws of bounded sums and counts, at the code's i + 1.
 use Prim.Native.Nat.{ℕ, zero, suc, ◌+◌, ◌*◌, ◌≤◌, ◌<◌}
-use mathlib.Core.Path.{◌≡◌, refl, sym, ap, ap₂}
+use mathlib.Core.Path.{◌≡◌, refl, sym, ap₂}
 use mathlib.Core.Bool.{Bool, true, false, ◌||◌}
 use mathlib.Core.Logic.{⊎_elim}
 use native.Mathlib.Nat.{suc-mul, not-suc-le-zero, eq-or-lt_of_le}

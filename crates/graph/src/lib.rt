@@ -1,4 +1,6 @@
 // Graphs, rows and tables: clusters at the ends of edges, edges in lists by key, the cut of a table, costs summed by key.
+#![tactic(auto)]
+
 ghost use Rattle.std.specs.Prelude.{◌≡◌, ℕ, ◌<◌, ◌≤◌, max, length, get_or};
 ghost use Rattle.folds.specs.Fold.{Read, over};
 ghost use Rattle.graph.specs.Rows.{clusters};

@@ -1,4 +1,6 @@
 // Numbers below 512 in nine words: eight of 64 bits, and one whose bits say which of the eight are not 0.
+#![tactic(auto)]
+
 ghost use Rattle.std.specs.Prelude.{◌≡◌, ◌^◌, ◌<◌, length, get_or};
 ghost use Rattle.std.specs.Int.Count.{count_trailing_zeros};
 ghost use Rattle.pool.specs.Pool.{put_of, taken_of, lowest_of};
