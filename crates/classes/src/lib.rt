@@ -1,10 +1,12 @@
 // Classes of clusters, guessed along the links of their edges.
+#![tactic(auto)]
+
 ghost use Rattle.std.specs.Prelude.{◌≡◌, ◌<◌, ◌≤◌, length};
 ghost use Rattle.graph.specs.Links.{Named};
 
 // Where the guess of classes stands: at a cluster, or at 512 between two walks. `top` was come back from last, of those that have no class yet, and
 // `tried` clusters were taken to start from.
-#[derive(Drop)]
+#[derive(Clone, Copy)]
 struct Place {
     at: u16,
     top: u16,

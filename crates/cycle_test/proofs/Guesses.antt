@@ -1,5 +1,5 @@
 -- Numbers that rise along every edge rule cycles out; each list of edges leads on.
-use Rattle.std.proofs.Common.{◌≡◌, ℕ, ◌+◌, ◌*◌, ◌/◌, ◌%◌, ◌<◌, ◌≤◌, List, length, get_or, set, replicate, refl, ap, ◌∙◌, mod-lt, div-lt_iff_lt-mul, le-div_iff_mul-le, arith, length-set, get_or-set_other, get_or-set_same}
+use Rattle.std.proofs.Common.{◌≡◌, ℕ, ◌+◌, ◌*◌, ◌/◌, ◌%◌, ◌<◌, ◌≤◌, List, length, get_or, set, replicate, refl, ap, mod-lt, div-lt_iff_lt-mul, le-div_iff_mul-le, arith, length-set, get_or-set_other, get_or-set_same}
 use lib.Arith.{digits_div}
 use lib.ListN.{get_or-replicate}
 use Rattle.folds.proofs.Cases.{either, eq_or_ne}

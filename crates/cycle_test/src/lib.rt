@@ -1,4 +1,6 @@
 // The lowest cluster on a cycle, where no order is wanted. Most graphs have no cycle, and numbers that rise along every edge show it, whoever found them.
+#![tactic(auto)]
+
 ghost use Rattle.std.specs.Prelude.{◌≡◌, ◌+◌, ◌/◌, ◌%◌, ◌<◌, ◌≤◌, true, length, ◌==◌};
 ghost use Rattle.folds.specs.Fold.{pick};
 ghost use Rattle.graph.specs.Walk.{Acyclic};

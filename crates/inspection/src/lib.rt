@@ -1,4 +1,6 @@
 // The public call that inspects a table, and checks 10 to 13 below it.
+#![tactic(auto)]
+
 ghost use Rattle.std.specs.Prelude.{◌≡◌, ◌<◌, ◌≤◌, length, get_or, eqb, ltb, leb, ◌&&◌};
 ghost use Rattle.folds.specs.Fold.{pick, first_to, Filled, over};
 ghost use Rattle.graph.specs.Graph.{graph_of, via, arcs, joining, Inside};
@@ -12,7 +14,7 @@ ghost use Rattle.inspection.specs.Promises.{TableReady, Judged};
 use validity::{Cause, Verdict};
 
 // The cut of a table that passed, or the refusal.
-#[derive(Drop)]
+#[derive(Clone, Copy)]
 pub enum Inspected {
     Cut(u32),
     Failed(Cause, usize),

@@ -1,4 +1,6 @@
 // Topological order of clusters or parts, their levels, and the lowest on a cycle.
+#![tactic(auto)]
+
 ghost use Rattle.std.specs.Prelude.{◌≡◌, true, false, ◌⊎◌, ℕ, ◌+◌, ◌<◌, ◌≤◌, length, get_or, eqb};
 ghost use Rattle.folds.specs.Fold.{pick, sum_to, over, zeros};
 ghost use Rattle.graph.specs.Walk.{Walk};

@@ -1,4 +1,6 @@
 // The causes of refusal and checks 1 to 8 of document 01.
+#![tactic(auto)]
+
 ghost use Rattle.std.specs.Prelude.{◌≡◌, ℕ, ◌<◌, ◌≤◌, length, get_or, set, true, ◌||◌, eqb, ltb, leb};
 ghost use Rattle.folds.specs.Fold.{when, count_to, first_to};
 ghost use Rattle.graph.specs.Graph.{graph_of};
@@ -13,7 +15,7 @@ ghost use Rattle.validity.specs.Promises.{Fits, OrderLeft};
 ghost use Rattle.validity.specs.Check.{refuse_at, bad_vertices, bad_parts, bad_edges, bad_cost, bad_ends, repeats, repeats_from, lists_from, checked};
 
 // In the order of document 01's numbers.
-#[derive(Drop)]
+#[derive(Clone, Copy)]
 pub enum Cause {
     Vertices,
     Parts,
@@ -33,14 +35,14 @@ pub enum Cause {
     Lines,
 }
 
-#[derive(Drop)]
+#[derive(Clone, Copy)]
 pub enum Verdict {
     Passed,
     Refused(Cause, usize),
 }
 
 // A verdict, and how many edges the search for a repeated one tried.
-#[derive(Drop)]
+#[derive(Clone, Copy)]
 pub struct Checked {
     pub verdict: Verdict,
     pub tried: usize,
@@ -71,7 +73,7 @@ pub fn number(c: Cause) -> u32
 }
 
 // Where a repeated edge is, or how many edges there are, and how many the search tried.
-#[derive(Drop)]
+#[derive(Clone, Copy)]
 pub struct Repeated {
     pub place: usize,
     pub tried: usize,
