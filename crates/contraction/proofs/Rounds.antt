@@ -67,8 +67,9 @@ next_layer G row ps F S K =
     }
 
 pub after_layer : (G : Graph) → Formed G → (row : List ℕ) (rs : List Round) → Layer G row → AllKeep G row rs → (i : ℕ) → Layer G (row_after row (take i rs))
-after_layer G F row rs S K zero = S
+after_layer G F row [] S K zero = S
 after_layer G F row [] S K (suc i) = S
+after_layer G F row (ps ∷ rs) S K zero = S
 after_layer G F row (ps ∷ rs) S (k, K) (suc i) = after_layer G F (next_row_of row ps) rs (next_layer G row ps F S k) K i
 
 -- one round more, or the list has ended

@@ -1,4 +1,6 @@
 // Joining clusters in pairs: the rules, the next row, and the law that no cycle comes of it.
+#![tactic(auto)]
+
 ghost use Rattle.std.specs.Prelude.{◌≡◌, ◌<◌, length};
 ghost use Rattle.contraction.specs.Next.{joined_row};
 ghost use Rattle.contraction.specs.Promises.{mate_in, Mated, Short, NamesGiven, Joined, Renamed};

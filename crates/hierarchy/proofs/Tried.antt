@@ -85,7 +85,7 @@ module _ (G : Graph) (k bound : ℕ) where
   run_rows full (suc r) l = absurd (omega arith)
   run_rows (ends t) (suc r) l = absurd (omega arith)
   run_rows (drops t p) (suc r) l = absurd (omega arith)
-  run_rows (keeps t p R) (suc r) l = run_rows R r (omega arith)
+  run_rows (keeps {f = f} t p R) (suc r) l = run_rows {f = f} R r (omega arith)
 
   -- a round on the last of these rows is tried, and dropped
   abbrev pub drops_at : ℕ → List ℕ → List (List ℕ) → Bool
@@ -105,7 +105,7 @@ module _ (G : Graph) (k bound : ℕ) where
   run_all P h full p (suc r) l = absurd (omega arith)
   run_all P h (ends t) p (suc r) l = absurd (omega arith)
   run_all P h (drops t q) p (suc r) l = absurd (omega arith)
-  run_all P h (keeps {row = row} t q R) p (suc r) l = run_all P h R (h row p t) r (omega arith)
+  run_all P h (keeps {f = f} {row = row} t q R) p (suc r) l = run_all P h {f = f} R (h row p t) r (omega arith)
 
   pub run_few : {f : ℕ} {row : List ℕ} {rows : List (List ℕ)} {rs : List Round} → Run f row rows rs → length rows ≤ f
   run_few full = omega arith

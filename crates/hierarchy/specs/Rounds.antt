@@ -1,5 +1,5 @@
 -- The rounds tried and kept, and the rows they leave.
-use Rattle.std.specs.Prelude.{ℕ, zero, suc, ◌+◌, ◌*◌, Bool, not, ◌&&◌, List, [], ◌∷◌, ◌++◌, ltb, length, get_or}
+use Rattle.std.specs.Prelude.{ℕ, zero, suc, ◌*◌, Bool, not, ◌&&◌, List, [], ◌∷◌, ◌++◌, ltb, length, get_or}
 use Rattle.folds.specs.Fold.{pick, over}
 use Rattle.graph.specs.Graph.{Graph, vertices, identity}
 use Rattle.graph.specs.Rows.{clusters}

@@ -1,4 +1,6 @@
 // The rows of the hierarchy: rounds kept and dropped, each row by its own round.
+#![tactic(auto)]
+
 ghost use Rattle.std.specs.Prelude.{◌≡◌, ◌+◌, ◌*◌, ◌<◌, ◌≤◌, length, take};
 ghost use Rattle.graph.specs.Rows.{Layer, rows_in};
 ghost use Rattle.folds.specs.Fold.{over, zeros};

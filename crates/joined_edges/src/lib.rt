@@ -1,4 +1,6 @@
 // One edge for all edges from one cluster to another, with their summed width.
+#![tactic(auto)]
+
 ghost use Rattle.std.specs.Prelude.{◌≡◌, ◌+◌, ◌<◌, ◌≤◌, length};
 ghost use Rattle.folds.specs.Fold.{zeros};
 ghost use Rattle.graph.specs.Graph.{arcs, Inside};

@@ -1,4 +1,6 @@
 // One round's choice of pairs: clusters in topological order, each takes the widest successor that the rules and the bound allow.
+#![tactic(auto)]
+
 ghost use Rattle.std.specs.Prelude.{◌≡◌, ℕ, ◌+◌, ◌<◌, ◌≤◌, length, get_or, take};
 ghost use Rattle.folds.specs.Fold.{list_to, over, zeros, most_cost};
 ghost use Rattle.graph.specs.Graph.{graph_of, identity, joining};

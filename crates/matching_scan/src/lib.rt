@@ -1,4 +1,6 @@
 // Loops over the edges of a cluster: the width that leaves it, what its successors offer it, what a pair that begins at it blocks.
+#![tactic(auto)]
+
 ghost use Rattle.std.specs.Prelude.{◌≡◌, ◌||◌, eqb, ℕ, ◌+◌, ◌<◌, ◌≤◌, length, get_or};
 ghost use Rattle.topology.specs.Level.{next_in};
 ghost use Rattle.folds.specs.Fold.{sum_to, any_to, most_cost};
@@ -136,7 +138,7 @@ fn offer(
 }
 
 // A width, and the cluster that offers it.
-#[derive(Drop)]
+#[derive(Clone, Copy)]
 pub struct Best {
     pub width: u32,
     pub to: usize,

@@ -1,4 +1,6 @@
 // The lists and costs of a row, carried to the next one.
+#![tactic(auto)]
+
 ghost use Rattle.std.specs.Prelude.{◌≡◌, ℕ, ◌+◌, ◌<◌, ◌≤◌, length, get_or, take};
 ghost use Rattle.folds.specs.Fold.{sum_to, put, part, most_cost};
 ghost use Rattle.row_lists.specs.Carry.{Between, Maps, First, Next, Merged};
