@@ -1,5 +1,7 @@
 // What leaves each position of an order and what comes into it, by the edges of the cluster that lies there: the table of the least cuts, and the
 // starts that it gives.
+#![tactic(auto)]
+
 ghost use Rattle.std.specs.Prelude.{◌≡◌, ◌<◌, ◌≤◌, length};
 ghost use Rattle.folds.specs.Fold.{over};
 ghost use Rattle.graph.specs.Coarse.{Narrow};

@@ -1,4 +1,6 @@
 // The table of the suffix recurrence: least cuts, at y * 17 + j for position y and j starts after it.
+#![tactic(auto)]
+
 ghost use Rattle.std.specs.Prelude.{◌≡◌, ◌+◌, ◌-◌, ◌*◌, ◌<◌, ◌≤◌, min, length, ltb};
 ghost use Rattle.folds.specs.Fold.{most_cost, most_width};
 ghost use Rattle.division_table.specs.Promises.{no_cut, span, within, LowCuts, Relaxed, Topped, RunWeights, Lanes, LanesStored, Table, ColumnsFilled, Column, InInterval};

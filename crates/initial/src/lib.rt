@@ -1,4 +1,6 @@
 // The initial partition: the least division of a row's topological order, on the highest row that has one.
+#![tactic(auto)]
+
 ghost use Rattle.std.specs.Prelude.{◌≡◌, ◌<◌, ◌≤◌, length, take};
 ghost use Rattle.folds.specs.Fold.{over};
 ghost use Rattle.graph.specs.Graph.{joining, graph_of, Proper};
@@ -14,14 +16,14 @@ ghost use Rattle.division_scan.specs.Scan.{Positioned, LinkedBy, leaving_by, Cos
 ghost use Rattle.initial.specs.Positions.{Once, Inverse};
 
 // The least cut, or there is no division.
-#[derive(Drop)]
+#[derive(Clone, Copy)]
 pub enum Found {
     Cut(u32),
     Nothing,
 }
 
 // The row that was cut and its cut, or none can be.
-#[derive(Drop)]
+#[derive(Clone, Copy)]
 pub enum Initial {
     At(usize, u32),
     Uncut,
