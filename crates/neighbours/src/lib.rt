@@ -1,6 +1,8 @@
 // What a visit of a cluster needs, by its own edges in a rung's lists: the parts that they lead to, and their width to each. The parts are
 // kept from one visit to the next, with a mark for each cluster: 0 where no candidate is open to it, 2 where a neighbour's move may have changed what is
 // known of it.
+#![tactic(auto)]
+
 ghost use Rattle.std.specs.Prelude.{◌≡◌, ◌&&◌, ◌<◌, ◌≤◌, min, max, length, get_or, leb};
 ghost use Rattle.folds.specs.Fold.{pick, when, turns, Read};
 ghost use Rattle.graph.specs.Links.{Linked, Ended};

@@ -1,11 +1,13 @@
 // The record of part sums: made of a table, asked whether a move is allowed, and moved.
+#![tactic(auto)]
+
 ghost use Rattle.std.specs.Prelude.{◌≡◌, ◌<◌, ◌≤◌, length};
 ghost use Rattle.folds.specs.Fold.{Read};
 ghost use Rattle.graph.specs.Totals.{Keyed};
 ghost use Rattle.part_sums.specs.Sums.{SumsOf, size_allowed, sums_allow, sums_even, FirstBelow, FirstEven, Shifts, Shifted};
 
 // The cost of each of up to 16 parts, and how many parts there are.
-#[derive(Drop)]
+#[derive(Clone, Copy)]
 pub struct PartSums {
     pub sums: [u32; 16],
     pub count: usize,

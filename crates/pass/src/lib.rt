@@ -1,4 +1,6 @@
 // A pass over the clusters of a rung: each goes where an allowed candidate gains most, or evens two parts out where none gains.
+#![tactic(auto)]
+
 ghost use Rattle.std.specs.Prelude.{◌||◌, ◌≡◌, ℕ, ◌+◌, ◌<◌, ◌≤◌, ◌^◌, min, ltb, length, get_or};
 ghost use Rattle.folds.specs.Fold.{when, turns};
 ghost use Rattle.neighbours.specs.Visit.{Placed, Listed, Indexed, pull_to, Seated};
@@ -8,7 +10,7 @@ ghost use Rattle.pass.specs.Work.{gains_by, beats_of, better_of, Around, back_al
 use part_sums::PartSums;
 
 // The sums, the cut, the moves of gain above 0 so far, and whether the pass at hand has moved something.
-#[derive(Drop)]
+#[derive(Clone, Copy)]
 pub struct Progress {
     pub sums: PartSums,
     pub cut: u32,
@@ -17,7 +19,7 @@ pub struct Progress {
 }
 
 // The part that a cluster goes to, and how much the cut falls by it.
-#[derive(Drop)]
+#[derive(Clone, Copy)]
 struct Target {
     part: usize,
     gain: u32,

@@ -1,4 +1,6 @@
 // Refinement: passes over the clusters of a rung until one moves nothing, down the rungs.
+#![tactic(auto)]
+
 ghost use Rattle.std.specs.Prelude.{◌≡◌, suc, ◌*◌, ◌<◌, ◌≤◌, length, take};
 ghost use Rattle.graph.specs.Graph.{graph_of, joining, cut_of, through};
 ghost use Rattle.graph.specs.Rows.{clusters, rows_in};
@@ -192,7 +194,7 @@ fn link_row(
 }
 
 // What a refinement answers.
-#[derive(Drop)]
+#[derive(Clone, Copy)]
 pub struct Outcome {
     pub cut: u32,
     pub moves: usize,
