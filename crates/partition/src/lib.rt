@@ -1,4 +1,6 @@
 // The public split: checks, then the three phases of the paper.
+#![tactic(auto)]
+
 ghost use Rattle.std.specs.Prelude.{◌≡◌, ◌*◌, ◌≤◌, length, take, leb, ◌&&◌};
 ghost use Rattle.graph.specs.Graph.{graph_of, identity, arcs, joining};
 ghost use Rattle.graph.specs.Links.{Linked, leave};
@@ -14,7 +16,7 @@ use initial::Initial;
 use validity::{Cause, Verdict};
 
 // What a split tells: the cut, the rounds kept, the rung that was cut and the moves that lowered the cut.
-#[derive(Drop)]
+#[derive(Clone, Copy)]
 pub struct Summary {
     pub cut: u32,
     pub rounds: usize,
@@ -22,14 +24,14 @@ pub struct Summary {
     pub moves: usize,
 }
 
-#[derive(Drop)]
+#[derive(Clone, Copy)]
 pub enum Partitioned {
     Parted(Summary),
     Failed(Cause, usize),
 }
 
 // The answer of the work below the checks.
-#[derive(Drop)]
+#[derive(Clone, Copy)]
 pub enum Inner {
     Found(Summary),
     Nothing,
