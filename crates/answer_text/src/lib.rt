@@ -1,3 +1,5 @@
+#![tactic(auto)]
+
 ghost use Rattle.std.specs.Prelude.{◌≡◌, ◌+◌, ◌<◌, ◌≤◌, [], ◌∷◌, ltb, length};
 ghost use Rattle.line_forms.specs.Form.{printed, printed_all, needs, needs_all};
 ghost use Rattle.decimal.specs.Write.{Puts};
@@ -9,14 +11,14 @@ pub mod tables;
 // The writer of answers: lines into a buffer that the caller lends, or nothing where it is too short.
 
 // The bytes written, or document 01's refusal 4 at place 0.
-#[derive(Drop)]
+#[derive(Clone, Copy)]
 pub enum Written {
     Bytes(usize),
     Short,
 }
 
 // What lines leave of a buffer.
-#[derive(Drop)]
+#[derive(Clone, Copy)]
 pub enum Room {
     Left(usize),
     Over,

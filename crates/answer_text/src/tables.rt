@@ -10,7 +10,7 @@ use line_forms::{Pair, Quadruple, Run};
 // The reader of stage tables as the splitting program prints them.
 
 // The figures of the split line and the number of entries; 15, the line that is not of the form; or 4, a list too short.
-#[derive(Drop)]
+#[derive(Clone, Copy)]
 pub enum Table {
     Entries(u32, u32, u32, u32, usize),
     BadLine(usize),

@@ -1,10 +1,10 @@
 -- The readers from what the code's branches say, at the code's places.
 use Prim.Native.Nat.{ℕ, ◌+◌, ◌-◌, ◌*◌, ◌≤◌, ◌<◌}
 use mathlib.Core.Path.{◌≡◌, sym, ◌∙◌}
-use mathlib.Core.Bool.{Bool, true, false, not}
+use mathlib.Core.Bool.{Bool, true, false}
 use mathlib.Core.List.{List, []}
 use lib.ListN.{length, get_or, drop, drop_of_length-le}
-use borrow.Author.Tests.{eq-eqb, ne_eqb, lt-ltb, le-ltb, not-true, not-false}
+use borrow.Author.Tests.{eq-eqb, ne_eqb, lt-ltb, le-ltb}
 use Rattle.folds.specs.Fold.{pick}
 use Rattle.folds.proofs.Lists.{left_cons}
 use Rattle.decimal.specs.Read.{more_of, number_of, starts_of}
@@ -82,14 +82,14 @@ module _ (p t : List ℕ) (k i : ℕ) (r : Bool) (e : starts_of (drop k p) (drop
     starts_on l n = rw (left_cons p k 0 h, left_cons t i 0 l, eq-eqb _ _ n) at e
 
 -- a word that was found is within the text
-pub within : (p t : List ℕ) (i : ℕ) (b : Bool) → b ≡ starts_of p (drop i t) → not b ≡ false → length p ≤ length t - i
-within p t i b e h = starts_within p t i (sym e ∙ not-false b h)
+pub within : (p t : List ℕ) (i : ℕ) (b : Bool) → b ≡ starts_of p (drop i t) → b ≡ true → length p ≤ length t - i
+within p t i b e h = starts_within p t i (sym e ∙ h)
 
 -- a test by a callee went so, or so
-pub test_yes : {A : Type 0} (b c : Bool) (x z r : A) → b ≡ c → not b ≡ false → r ≡ x → r ≡ pick c x z
-test_yes b c x z r e h q = rw (← e, not-false b h) q
+pub test_yes : {A : Type 0} (b c : Bool) (x z r : A) → b ≡ c → b ≡ true → r ≡ x → r ≡ pick c x z
+test_yes b c x z r e h q = rw (← e, h) q
 
-pub test_no : {A : Type 0} (b c : Bool) (x z r : A) → b ≡ c → not b ≡ true → r ≡ z → r ≡ pick c x z
-test_no b c x z r e h q = rw (← e, not-true b h) q
+pub test_no : {A : Type 0} (b c : Bool) (x z r : A) → b ≡ c → b ≡ false → r ≡ z → r ≡ pick c x z
+test_no b c x z r e h q = rw (← e, h) q
 
 pub ruleset tests = (test_yes, test_no)

@@ -1,6 +1,5 @@
 -- Numbers in base ten: how one is printed, and which ones stand in a text.
 use Prim.Native.String.{String}
-use Prim.Native.String
 use Prim.Native.Char.{code}
 use Rattle.std.specs.Prelude.{ℕ, zero, suc, ◌+◌, ◌-◌, ◌*◌, ◌/◌, ◌%◌, Bool, true, false, List, [], ◌∷◌, ◌++◌, ltb, leb}
 use Rattle.folds.specs.Fold.{pick}

@@ -1,3 +1,5 @@
+#![tactic(auto)]
+
 ghost use Rattle.std.specs.Prelude.{◌≡◌, ◌+◌, ◌<◌, ◌≤◌, length, drop, ◌++◌};
 ghost use Rattle.decimal.specs.Decimal.{decimal};
 ghost use Rattle.decimal.specs.Write.{Puts, Width};
@@ -6,7 +8,7 @@ ghost use Rattle.decimal.specs.Read.{more_of, number_of, starts_of, field_of};
 // Numbers in base ten, read from a text and written into a buffer.
 
 // A number that was read, with the place after it.
-#[derive(Drop)]
+#[derive(Clone, Copy)]
 pub enum Number {
     Is(u32, usize),
     Not,

@@ -1,3 +1,5 @@
+#![tactic(auto)]
+
 ghost use Rattle.std.specs.Prelude.{◌≡◌};
 ghost use Rattle.line_forms.specs.Lines.{Ran, of_form};
 ghost use Rattle.line_forms.specs.Read.{read_form, as_one, as_three};
@@ -11,7 +13,7 @@ use validity::Cause;
 // The lines of a kit text (document 01, "Kit text"), and the checks 15 and 16 over them.
 
 // A text that is known to be good: its figures, and where its block lines and its wire lines begin.
-#[derive(Drop)]
+#[derive(Clone, Copy)]
 pub struct Layout {
     pub stages: u32,
     pub limit: u32,
@@ -21,7 +23,7 @@ pub struct Layout {
     pub first_wire: usize,
 }
 
-#[derive(Drop)]
+#[derive(Clone, Copy)]
 pub enum Scan {
     Fine(Layout),
     Refused(Cause, usize),

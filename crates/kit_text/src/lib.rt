@@ -1,3 +1,5 @@
+#![tactic(auto)]
+
 ghost use Rattle.std.specs.Prelude.{◌≡◌, ◌≤◌, length};
 ghost use Rattle.folds.specs.Fold.{over};
 ghost use Rattle.line_forms.specs.Lines.{Ran, column};
@@ -12,14 +14,14 @@ use validity::Cause;
 // The reader of kit text (document 01, "Kit text").
 
 // What reading a text answers: the numbers of blocks and wires, the stage count and the limit; or why not, and the place.
-#[derive(Drop)]
+#[derive(Clone, Copy)]
 pub enum Reading {
     Kit(usize, usize, u32, u32),
     Refused(Cause, usize),
 }
 
 // The reader of kit text: the text that the caller lends, and how far it has been read.
-#[derive(Drop)]
+#[derive(Clone, Copy)]
 pub struct KitReader<'a> {
     pub text: &'a [u8],
     pub at: usize,

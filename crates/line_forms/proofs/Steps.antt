@@ -1,10 +1,9 @@
 -- The readers of lines from what the code's branches say: a field, then the fields that are left.
 use Prim.Native.Nat.{ℕ, ◌+◌}
 use mathlib.Core.Path.{◌≡◌, sym, ap, ◌∙◌}
-use mathlib.Core.Bool.{Bool, true, false, not}
+use mathlib.Core.Bool.{Bool, true, false}
 use mathlib.Core.List.{List, [], ◌∷◌}
 use lib.ListN.{length, drop}
-use borrow.Author.Tests.{not-true, not-false}
 use Rattle.decimal.specs.Read.{starts_of, field_of}
 use Rattle.decimal.specs.declared.Number.{Number}
 use Rattle.decimal.specs.declared.Number.TheVariants.{Is, Not}
@@ -25,13 +24,13 @@ module _ (p : List ℕ) (most : ℕ) (fs : List Field) (end t : List ℕ) (i : �
     unfolding read_fields
     field_none q = rw (← e, h, ← q)
 
-    pub field_end : (b : Bool) → fs ≡ [] → b ≡ starts_of end (drop j t) → not b ≡ false → got (v ∷ []) (j + length end) ≡ read_fields (field p most ∷ fs) end t i
+    pub field_end : (b : Bool) → fs ≡ [] → b ≡ starts_of end (drop j t) → b ≡ true → got (v ∷ []) (j + length end) ≡ read_fields (field p most ∷ fs) end t i
     unfolding read_fields
-    field_end b z q w = rw (← e, h, z, ← q, not-false b w)
+    field_end b z q w = rw (← e, h, z, ← q, w)
 
-    pub field_open : (b : Bool) → fs ≡ [] → b ≡ starts_of end (drop j t) → not b ≡ true → nope ≡ read_fields (field p most ∷ fs) end t i
+    pub field_open : (b : Bool) → fs ≡ [] → b ≡ starts_of end (drop j t) → b ≡ false → nope ≡ read_fields (field p most ∷ fs) end t i
     unfolding read_fields
-    field_open b z q w = rw (← e, h, z, ← q, not-true b w)
+    field_open b z q w = rw (← e, h, z, ← q, w)
 
 -- what an answer of the code says of the reading
 pub told : {A : Type 0} (f : A → Got) {x y : A} {g : Got} → f x ≡ g → x ≡ y → g ≡ f y

@@ -1,3 +1,5 @@
+#![tactic(auto)]
+
 ghost use Rattle.std.specs.Prelude.{◌≡◌, ◌+◌, ◌<◌, ◌≤◌, [], ◌∷◌, ◌++◌, length};
 ghost use Rattle.decimal.specs.Decimal.{decimal};
 ghost use Rattle.decimal.specs.Write.{Puts};
@@ -8,26 +10,26 @@ use decimal::Number;
 
 // Lines of one to four numbers with words around them, each read from a place on.
 
-#[derive(Drop)]
+#[derive(Clone, Copy)]
 pub enum Pair {
     Are(u32, u32, usize),
     No,
 }
 
-#[derive(Drop)]
+#[derive(Clone, Copy)]
 pub enum Triple {
     Are(u32, u32, u32, usize),
     No,
 }
 
-#[derive(Drop)]
+#[derive(Clone, Copy)]
 pub enum Quadruple {
     Are(u32, u32, u32, u32, usize),
     No,
 }
 
 // Lines of one form, one after another, and the place past them.
-#[derive(Drop)]
+#[derive(Clone, Copy)]
 pub struct Run {
     pub count: usize,
     pub next: usize,

@@ -1,5 +1,7 @@
 // The reason of a refusal in words, for people, put into a buffer that the caller lends. Proved safe and ending; the words
 // are tied to no definition, and tests/words compares them.
+#![tactic(auto)]
+
 use line_forms::Triple;
 
 pub mod front;

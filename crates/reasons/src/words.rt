@@ -2,7 +2,7 @@
 // place past them, and what finds no room is left out.
 
 // A sentence: its line in a table of words, from 1, and the numbers that stand for the % in it, in order.
-#[derive(Drop)]
+#[derive(Clone, Copy)]
 pub struct Sentence {
     pub line: usize,
     pub a: usize,

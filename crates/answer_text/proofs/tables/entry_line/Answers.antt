@@ -1,0 +1,8 @@
+-- The line is read by the form's words.
+use Rattle.line_forms.specs.Read.{read_form}
+use borrow.Author.Rules.{rules}
+use Rattle.answer_text.proofs.tables.entry_line.Goals as goal
+
+pub returns : goal.returns
+unfolding read_form
+returns c = search rules

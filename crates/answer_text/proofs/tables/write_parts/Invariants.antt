@@ -1,0 +1,12 @@
+-- Invariant: the first n entries are written, and what is still to be written is what the lines from i on say.
+use Prim.Native.Nat.{◌-◌}
+use Rattle.line_forms.specs.Lines.{in_order}
+use Rattle.line_forms.proofs.Lines.{Left, Writing}
+use Rattle.answer_text.specs.Forms.{entry_form, block_word}
+use Rattle.answer_text.proofs.tables.write_parts.Given as goal
+
+abbrev pub invariant-loop-n : goal.invariant-loop-n
+invariant-loop-n l = Left (in_order (entry_form block_word)) l.text 512 l.at l.n l.i × Writing (in_order (entry_form block_word)) l.text 512 l.at 1 l.initial.parts l.parts l.n l.i
+
+abbrev pub decreases-loop-n : goal.decreases-loop-n
+decreases-loop-n l = 512 - l.n

@@ -1,0 +1,12 @@
+-- A field, then a line of three.
+use Rattle.line_forms.proofs.Steps.{field_not, field_then, field_none}
+use Rattle.line_forms.proofs.four.Goals as goal
+
+pub returns-in_default : goal.returns-in_default
+returns-in_default c = search field_not
+
+pub returns-in_default-three : goal.returns-in_default-three
+returns-in_default-three c = field_none _ _ _ _ _ _ _ c.field.ensures _ _ c.in-Is.is c.in_default-three.ensures
+
+pub returns : goal.returns
+returns c = field_then _ _ _ _ _ _ _ c.field.ensures _ _ c.in-Is.is _ _ c.in-Are.ensures

@@ -1,0 +1,10 @@
+-- Safe and ending: the form's bytes are gone through once.
+use Prim.Native.Nat.{◌-◌}
+use lib.ListN.{length}
+use Rattle.reasons.proofs.lines.followed.Given as goal
+
+abbrev pub invariant-loop-k : goal.invariant-loop-k
+invariant-loop-k l = Unit {0}
+
+abbrev pub decreases-loop-k : goal.decreases-loop-k
+decreases-loop-k l = length l.form - l.k

@@ -1,0 +1,10 @@
+-- Safe and ending: each byte once.
+use Prim.Native.Nat.{◌-◌}
+use lib.ListN.{length}
+use Rattle.reasons.proofs.words.start_of.Given as goal
+
+abbrev pub invariant-loop-i : goal.invariant-loop-i
+invariant-loop-i l = Unit {0}
+
+abbrev pub decreases-loop-i : goal.decreases-loop-i
+decreases-loop-i l = length l.text - l.i
