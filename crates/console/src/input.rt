@@ -1,11 +1,8 @@
 // Reading an input to its end, or to one byte more than a kit text may have.
-ghost use Rattle.std.specs.Prelude.{◌≡◌, length};
+ghost use Rattle.std.specs.Prelude.{◌≡◌, ◌≤◌, IfOk, length};
 
-#[derive(Drop)]
-pub enum Input {
-    Bytes(usize),
-    Failed,
-}
+use std::io;
+use std::io::Read;
 
 pub fn space() -> [u8; 65537]
     ensures { 65537 ≡ length result }
@@ -13,32 +10,31 @@ pub fn space() -> [u8; 65537]
     [0; 65537]
 }
 
-// One read, after the bytes that are there already. A failed read is not the end of the input.
-fn read_more(fd: i32, buf: &mut [u8], at: usize) -> Input {
+// One read, after the bytes that are there already, and how many are there then.
+fn read_more(from: &mut impl Read, buf: &mut [u8], at: usize) -> io::Result<usize>
+    ensures kept { length buf.new ≡ length buf.old }
+    ensures within { IfOk result (λ n. n ≤ length buf.old) }
+{
     if at >= buf.len() {
-        return Input::Bytes(at);
+        return Ok(buf.len());
     }
-    let rest = &mut buf[at..];
-    let got = libc::read(fd, rest);
-    if got < 0 {
-        return Input::Failed;
-    }
-    Input::Bytes(reasons::words::plus(at, io::count(got, rest)))
+    let got = from.read(&mut buf[at..])?;
+    Ok(at + got)
 }
 
-// Each turn but the last gets a byte or more, so no run uses up the turns.
-pub fn read_all(fd: i32, buf: &mut [u8]) -> Input {
-    let mut at: usize = 0;
-    let mut turns: usize = 65538;
-    while turns > 0 {
-        let Input::Bytes(to) = read_more(fd, buf, at) else {
-            return Input::Failed;
-        };
+// How many bytes were read. A failed read is not the end of the input.
+pub fn read_all(from: &mut impl Read, buf: &mut [u8]) -> io::Result<usize>
+    ensures kept { length buf.new ≡ length buf.old }
+    ensures within { IfOk result (λ n. n ≤ length buf.old) }
+{
+    let mut at = 0;
+    // Each turn but the last gets a byte or more, so no run uses up the turns.
+    for _ in 0..=buf.len() {
+        let to = read_more(from, buf, at)?;
         if to == at {
-            return Input::Bytes(at);
+            break;
         }
         at = to;
-        turns -= 1;
     }
-    Input::Bytes(at)
+    Ok(at)
 }

@@ -1,4 +1,6 @@
 // The public calls for callers in C and Rust: numbers, slices, and cells for the answer.
+#![tactic(auto)]
+
 ghost use Rattle.std.specs.Prelude.{◌≡◌};
 ghost use Rattle.graph.specs.Graph.{graph_of};
 ghost use Rattle.validity.specs.Check.{most_vertices};
@@ -14,6 +16,7 @@ use partition::Partitioned;
 use validity::{Checked, Verdict};
 
 // The split's values into the cells; its number.
+#[tactic(auto, unfolding(crate::specs::Told::cells, folds::specs::Fold::over))]
 fn tell_split(told: Partitioned, answer: &mut [usize; 4]) -> u32
     ensures value { result ≡ (split.answer_of told).number }
     ensures answer_after { answer.new ≡ cells 4 (split.answer_of told) }
@@ -31,6 +34,7 @@ fn tell_split(told: Partitioned, answer: &mut [usize; 4]) -> u32
 }
 
 // Inspection's value into the cell; its number.
+#[tactic(auto, unfolding(crate::specs::Told::cells, folds::specs::Fold::over))]
 fn tell_inspect(told: Inspected, answer: &mut [usize; 1]) -> u32
     ensures value { result ≡ (inspect.answer_of told).number }
     ensures answer_after { answer.new ≡ cells 1 (inspect.answer_of told) }
@@ -48,6 +52,7 @@ fn tell_inspect(told: Inspected, answer: &mut [usize; 1]) -> u32
 }
 
 // The place and the count of a check into the cells; its number.
+#[tactic(auto, unfolding(crate::specs::Told::cells, folds::specs::Fold::over))]
 fn tell_check(told: Checked, answer: &mut [usize; 2]) -> u32
     ensures value { result ≡ (drawn.answer_of told).number }
     ensures answer_after { answer.new ≡ cells 2 (drawn.answer_of told) }
@@ -67,6 +72,7 @@ fn tell_check(told: Checked, answer: &mut [usize; 2]) -> u32
 }
 
 // The reading's values into the cells; its number.
+#[tactic(auto, unfolding(crate::specs::Told::cells, folds::specs::Fold::over))]
 fn tell_read(told: Reading, answer: &mut [usize; 4]) -> u32
     ensures value { result ≡ (outcome told).number }
     ensures answer_after { answer.new ≡ cells 4 (outcome told) }

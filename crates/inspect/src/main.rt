@@ -1,24 +1,31 @@
 // The program `inspect`: a kit text and a saved table, named as arguments; the verdict on standard output, reasons on
 // standard error.
+#![tactic(auto)]
+
 use answer_text::tables::Table;
-use console::input::Input;
+use console::Console;
 use inspection::Inspected;
 use kit_text::Reading;
+use std::env::FillError;
+use std::fs::File;
+use std::io;
+use std::rt::{Env, Files};
 use validity::Cause;
 
-fn say_order(cut: u32, order: &[u16]) {
+fn say_order(to: Console, cut: u32, order: &[u16]) {
     let mut buf = [0u8; 1024];
     let w = answer_text::write_order(&mut buf, line_forms::size(cut), order);
-    console::answer(b"inspect", w, &buf);
+    console::answer(to, b"inspect", w, &buf);
 }
 
-fn say_cuts(cut: u32, saved: u32) {
+fn say_cuts(to: Console, cut: u32, saved: u32) {
     let mut buf = [0u8; 256];
     let n = reasons::of_cuts(&mut buf, cut, saved);
-    console::explain(b"inspect", reasons::front::bytes(&buf, n));
+    console::explain(to, b"inspect", reasons::front::bytes(&buf, n));
 }
 
 fn refuse_table(
+    to: Console,
     number: usize,
     place: usize,
     costs: &[u16],
@@ -29,34 +36,36 @@ fn refuse_table(
     bound: u32,
 ) {
     let mut buf = [0u8; 8192];
-    console::say_refusal(b"inspect", number, place);
+    console::say_refusal(to, b"inspect", number, place);
     let n = reasons::of_table(
         &mut buf, number, place, costs, starts, ends, parts, k, bound,
     );
-    console::explain(b"inspect", reasons::front::bytes(&buf, n));
+    console::explain(to, b"inspect", reasons::front::bytes(&buf, n));
 }
 
 // A table text that is not of its form is 15 at its line, as a kit text is.
-fn refuse_saved(name: &[u8], saved: &[u8], line: usize) {
+fn refuse_saved(to: Console, name: &[u8], saved: &[u8], line: usize) {
     let mut buf = [0u8; 1024];
     console::say_refusal(
+        to,
         b"inspect",
         line_forms::size(validity::number(Cause::Line)),
         line,
     );
     let n = reasons::of_saved(&mut buf, saved, line);
-    console::say(b"inspect: ");
-    console::explain(name, reasons::front::bytes(&buf, n));
+    console::say(to, b"inspect: ");
+    console::explain(to, name, reasons::front::bytes(&buf, n));
 }
 
-fn pass(cut: u32, saved: u32, order: &[u16]) {
-    say_order(cut, order);
+fn pass(to: Console, cut: u32, saved: u32, order: &[u16]) {
+    say_order(to, cut, order);
     if cut != saved {
-        say_cuts(cut, saved);
+        say_cuts(to, cut, saved);
     }
 }
 
 fn inspect(
+    to: Console,
     costs: &[u16],
     starts: &[u16],
     ends: &[u16],
@@ -68,16 +77,17 @@ fn inspect(
 ) {
     let mut order = [0u16; 16];
     match inspection::inspect(costs, starts, ends, widths, k, bound, parts, &mut order) {
-        Inspected::Cut(cut) => pass(cut, saved, reasons::front::numbers(&order, k)),
+        Inspected::Cut(cut) => pass(to, cut, saved, reasons::front::numbers(&order, k)),
         Inspected::Failed(cause, place) => {
             let number = line_forms::size(validity::number(cause));
-            refuse_table(number, place, costs, starts, ends, parts, k, bound);
+            refuse_table(to, number, place, costs, starts, ends, parts, k, bound);
         }
     }
 }
 
 // The saved table, once the kit has been read.
 fn inspect_saved(
+    to: Console,
     costs: &[u16],
     starts: &[u16],
     ends: &[u16],
@@ -91,6 +101,7 @@ fn inspect_saved(
     match answer_text::tables::read_table(saved, &mut parts) {
         Table::Entries(cut, _, _, _, n) => {
             inspect(
+                to,
                 costs,
                 starts,
                 ends,
@@ -101,13 +112,14 @@ fn inspect_saved(
                 cut,
             );
         }
-        Table::BadLine(line) => refuse_saved(name, saved, line),
-        Table::Short => console::say(b"inspect: the table does not fit its list\n"),
+        Table::BadLine(line) => refuse_saved(to, name, saved, line),
+        Table::Short => console::say(to, b"inspect: the table does not fit its list\n"),
     }
 }
 
 // The lists of a kit that was read, at their own lengths.
 fn inspect_lists(
+    to: Console,
     r: Reading,
     text: &[u8],
     costs: &[u16],
@@ -123,6 +135,7 @@ fn inspect_lists(
             let e = reasons::front::numbers(ends, m);
             let w = reasons::front::numbers(widths, m);
             inspect_saved(
+                to,
                 reasons::front::numbers(costs, n),
                 s,
                 e,
@@ -134,6 +147,7 @@ fn inspect_lists(
             );
         }
         Reading::Refused(fault, line) => console::refuse_text(
+            to,
             b"inspect",
             text,
             validity::number(fault) as usize,
@@ -143,81 +157,108 @@ fn inspect_lists(
 }
 
 // The kit first: a kit text that is refused leaves the table unread.
-fn run(text: &[u8], name: &[u8], saved: &[u8]) {
+fn run(to: Console, text: &[u8], name: &[u8], saved: &[u8]) {
     let mut costs = [0u16; 512];
     let mut starts = [0u16; 1024];
     let mut ends = [0u16; 1024];
     let mut widths = [0u16; 1024];
     let r = kit_text::read_kit(text, &mut costs, &mut starts, &mut ends, &mut widths);
-    inspect_lists(r, text, &costs, &starts, &ends, &widths, name, saved);
+    inspect_lists(to, r, text, &costs, &starts, &ends, &widths, name, saved);
 }
 
-fn open_failed(name: &[u8]) {
-    console::say(b"inspect: cannot open ");
-    os::fail(name);
+fn open_failed(to: Console, name: &[u8], why: io::Error) {
+    console::say(to, b"inspect: cannot open ");
+    console::fail(to, name, why);
 }
 
-fn read_failed(name: &[u8]) {
-    console::say(b"inspect: cannot read ");
-    os::fail(name);
+fn read_failed(to: Console, name: &[u8], why: io::Error) {
+    console::say(to, b"inspect: cannot read ");
+    console::fail(to, name, why);
 }
 
-fn read_file(name: &[u8], buf: &mut [u8]) -> Input {
-    let fd = os::open_read(name);
-    if fd < 0 {
-        open_failed(name);
-        return Input::Failed;
+// A file is found by its name as text.
+fn open<R: Files>(rt: &R, name: &[u8]) -> io::Result<R::File> {
+    match std::str::from_utf8(name) {
+        Ok(path) => File::open(rt, path),
+        Err(_) => Err(io::Error::new(io::ErrorKind::InvalidFilename, "the name is not UTF-8")),
     }
-    let r = console::input::read_all(fd, buf);
-    if let Input::Failed = r {
-        read_failed(name);
-    }
-    libc::close(fd);
-    r
 }
 
-fn run_second(text: &[u8], name: &[u8]) {
+// How many bytes of the file stand in the buffer; where it cannot be read, that is said.
+fn read_file(rt: &impl Files, to: Console, name: &[u8], buf: &mut [u8]) -> Option<usize> {
+    let mut file = match open(rt, name) {
+        Ok(file) => file,
+        Err(why) => {
+            open_failed(to, name, why);
+            return None;
+        }
+    };
+    match console::input::read_all(&mut file, buf) {
+        Ok(n) => Some(n),
+        Err(why) => {
+            read_failed(to, name, why);
+            None
+        }
+    }
+}
+
+fn run_second(rt: &impl Files, to: Console, text: &[u8], name: &[u8]) {
     let mut space = console::input::space();
-    let Input::Bytes(n) = read_file(name, &mut space) else {
+    let Some(n) = read_file(rt, to, name, &mut space) else {
         return;
     };
-    run(text, name, reasons::front::bytes(&space, n));
+    run(to, text, name, reasons::front::bytes(&space, n));
 }
 
-fn run_files(first: &[u8], second: &[u8]) {
+fn run_files(rt: &impl Files, to: Console, first: &[u8], second: &[u8]) {
     let mut space = console::input::space();
-    let Input::Bytes(n) = read_file(first, &mut space) else {
+    let Some(n) = read_file(rt, to, first, &mut space) else {
         return;
     };
-    run_second(reasons::front::bytes(&space, n), second);
+    run_second(rt, to, reasons::front::bytes(&space, n), second);
 }
 
-fn run_named(first: &[u8]) {
-    let mut second = io::buffer();
-    let n = os::arg(2, &mut second);
-    if os::errno() != 0 {
-        os::fail(b"inspect: the name of the table file");
-        return;
+// How long a file's name is, which stands in the buffer then; where it cannot be had, that is said.
+fn read_name(rt: &impl Env, to: Console, i: usize, what: &[u8], buf: &mut [u8]) -> Option<usize> {
+    match rt.arg(i, buf) {
+        Ok(n) => Some(n),
+        Err(FillError::TooLong) => {
+            console::explain(to, what, b"File name too long\n");
+            None
+        }
+        Err(FillError::NotPresent) => {
+            console::explain(to, what, b"Invalid argument\n");
+            None
+        }
     }
-    run_files(first, reasons::front::bytes(&second, n));
 }
 
-fn run_arguments() {
-    let mut first = io::buffer();
-    let n = os::arg(1, &mut first);
-    if os::errno() != 0 {
-        os::fail(b"inspect: the name of the kit file");
+fn run_named(rt: &(impl Env + Files), to: Console, first: &[u8]) {
+    let mut second = [0u8; 4096];
+    let what = b"inspect: the name of the table file";
+    let Some(n) = read_name(rt, to, 2, what, &mut second) else {
         return;
-    }
-    run_named(reasons::front::bytes(&first, n));
+    };
+    run_files(rt, to, first, reasons::front::bytes(&second, n));
 }
 
-fn main() {
-    if os::arg_count() != 3 {
+fn run_arguments(rt: &(impl Env + Files), to: Console) {
+    let mut first = [0u8; 4096];
+    let what = b"inspect: the name of the kit file";
+    let Some(n) = read_name(rt, to, 1, what, &mut first) else {
+        return;
+    };
+    run_named(rt, to, reasons::front::bytes(&first, n));
+}
+
+fn main(rt: HostRuntime) {
+    let to = console::of(&rt);
+    if !console::has_argument(&rt, 2) || console::has_argument(&rt, 3) {
         console::say(
+            to,
             b"usage: inspect KITFILE TABLEFILE\nTwo file names are needed: a kit text, and a table as split prints it.\n",
         );
         return;
     }
-    run_arguments();
+    run_arguments(&rt, to);
 }
