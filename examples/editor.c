@@ -1,6 +1,6 @@
 /* An editor's side of the check: reads a kit file and draws its wires one by one. A wire that the check refuses is left out
  * and named, with how many wires the search for a repeated one tried.
- * Build: cc -Iinclude examples/editor.c target/staticlib/libhatchraisin.a -o editor */
+ * Build: cc -Iinclude examples/editor.c crates/hatchraisin/out/libhatchraisin.a -o editor */
 #include <stdio.h>
 #include "hatchraisin.h"
 

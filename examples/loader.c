@@ -1,5 +1,5 @@
 /* A loader: reads a kit file, splits it, and starts its stages; on a refusal it starts nothing.
- * Build: cc -Iinclude examples/loader.c target/staticlib/libhatchraisin.a -o loader */
+ * Build: cc -Iinclude examples/loader.c crates/hatchraisin/out/libhatchraisin.a -o loader */
 #include <stdio.h>
 #include "hatchraisin.h"
 

@@ -1,7 +1,7 @@
 /* hatchraisin.h: the stage splitter's calls, for the player's loader, the editor and the
  * bench.
  *
- * Link with target/staticlib/libhatchraisin.a (`rt staticlib hatchraisin` makes it), x86-64.
+ * Link with crates/hatchraisin/out/libhatchraisin.a (`rt lib` in crates/hatchraisin makes it), x86-64.
  *
  * A kit has n blocks, 1 to 512, each with a cost, and m wires, 0 to 1,024, each with a
  * start, an end and a width. It is to run as k stages, 1 to 16, none above the limit.

@@ -1,6 +1,6 @@
 fn main() {
     let here = std::env::var("CARGO_MANIFEST_DIR").unwrap();
-    println!("cargo:rustc-link-search=native={here}/../../target/staticlib");
+    println!("cargo:rustc-link-search=native={here}/../../crates/hatchraisin/out");
     println!("cargo:rustc-link-lib=static=hatchraisin");
-    println!("cargo:rerun-if-changed={here}/../../target/staticlib/libhatchraisin.a");
+    println!("cargo:rerun-if-changed={here}/../../crates/hatchraisin/out/libhatchraisin.a");
 }
