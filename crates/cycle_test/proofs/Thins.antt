@@ -1,6 +1,7 @@
 -- A cycle goes through no cluster that no edge leaves.
-use Rattle.std.proofs.Common.{◌≡◌, ℕ, ◌+◌, ◌<◌, ◌≤◌, List, length, get_or, take, set, sym, refl, ap, ◌∙◌, arith, length-set, length-take, get_or-set_other, get_or-take, get_or-set_same}
-use Rattle.folds.proofs.Cases.{either, eq_or_ne}
+use Rattle.std.proofs.Common.{◌≡◌, ℕ, ◌+◌, ◌<◌, ◌≤◌, List, length, get_or, take, set, sym, refl, ap, ◌∙◌, arith, length-set, length-take, get_or-set_other, get_or-take, get_or-set_same, not, eqb, ne_eqb}
+use Rattle.std.specs.Int.{from_bool}
+use Rattle.folds.proofs.Cases.{either, eq_or_ne, bit_few, bit_yes}
 use Rattle.graph.specs.Walk.{Walk, one, more, Acyclic, Cycle}
 use Rattle.graph.specs.Graph.{Arcs, joining, Edge}
 use Rattle.graph.specs.Links.{Named, Ended}
@@ -36,9 +37,13 @@ module _ (starts : List ℕ) where
 pub front_long : {l : List ℕ} {q : ℕ} → Clusters l q → length (take q l) ≡ q
 front_long C = simp length-take (omega (arith, C.room))
 
-front_named : {l : List ℕ} {q : ℕ} → Clusters l q → Named (take q l)
+pub front_named : {l : List ℕ} {q : ℕ} → Clusters l q → Named (take q l)
 front_named {l} {q} C =
     record { few = omega (arith, front_long C, C.few); low = λ i h. let z : i < q = omega (arith, front_long C) in rw (get_or-take q l i 0 z) (C.low i z) }
+
+-- what the first q edges leave
+pub marked_front : {l : List ℕ} {q : ℕ} {left : List ℕ} → Clusters l q → Marked (take q l) (length (take q l)) left → Marked l q left
+marked_front {l} {q} C T = record { tall = T.tall; leaves = λ i h. rw (get_or-take q l i 0 h) at (T.leaves i (omega (arith, front_long C))) }
 
 pub held_ended : {from to : List ℕ} {q : ℕ} → Held from to q → Ended (take q from) (take q to)
 held_ended H = record { from = front_named H.starts; to = front_named H.ends; same = front_long H.ends ∙ sym (front_long H.starts) }
@@ -60,15 +65,15 @@ module _ (left to : List ℕ) where
   pub picking_none : {picked : List ℕ} → length picked ≡ 1024 → Picking left to 0 picked 0
   picking_none e = record { long = e; few = omega arith; there = λ h l. absurd (omega arith); kept = λ i l. absurd (omega arith) }
 
-  pub picking_next : {j b t r : ℕ} {picked : List ℕ} → j < 1024 → b ≡ get_or to j 0 → r ≤ 1 → (0 < get_or left b 0 → r ≡ 1) → Picking left to j picked t → Picking left to (j + 1) (set picked t j) (t + r)
-  picking_next {j} {b} {t} {r} {picked} lj eb lr sure K =
+  pub picking_next : {j b t r : ℕ} {picked : List ℕ} → j < 1024 → b ≡ get_or to j 0 → r ≡ from_bool (not (eqb (get_or left b 0) 0)) → Picking left to j picked t → Picking left to (j + 1) (set picked t j) (t + r)
+  picking_next {j} {b} {t} {r} {picked} lj eb er K =
       record {
         long = length-set picked t j ∙ K.long;
-        few = omega (arith, K.few);
+        few = omega (arith, K.few, some);
         there = λ h l.
             either (eq_or_ne h t)
             (λ q. rw (q, get_or-set_same picked t j 0 lt) (omega arith))
-            (λ n. rw (get_or-set_other picked t h j 0 n) (omega (arith, K.there h (omega arith))));
+            (λ n. rw (get_or-set_other picked t h j 0 n) (omega (arith, K.there h (omega (arith, some)))));
         kept = λ i l p.
             either (eq_or_ne i j)
             (λ q. let s = sure (rw (eb ∙ ap (λ (x : ℕ). get_or to x 0) (sym q)) p) in (t, omega arith, get_or-set_same picked t j 0 lt ∙ sym q))
@@ -77,6 +82,12 @@ module _ (left to : List ℕ) where
     where
       lt : t < length picked
       lt = omega (arith, K.long, K.few)
+
+      some : r ≤ 1
+      some = rw er (bit_few (not (eqb (get_or left b 0) 0)))
+
+      sure : 0 < get_or left b 0 → r ≡ 1
+      sure p = er ∙ bit_yes (rw (ne_eqb (get_or left b 0) 0 (λ z. omega arith)) refl)
 
   pub picking_end : {picked : List ℕ} {j m t : ℕ} → j ≤ m → m ≤ j → Picking left to j picked t → Picking left to m picked t
   picking_end {j = j} {m = m} p q K = let e : j ≡ m = omega arith in rw e at K

@@ -1,4 +1,5 @@
 -- Tests: by cases on one, what a chain of them says, and a chain of them from what the code's branches say.
+use Rattle.std.specs.Int.{from_bool}
 use Prim.Native.Nat.{ℕ, suc, ◌≤◌, ◌<◌}
 use mathlib.Core.Path.{◌≡◌, refl, sym, ◌∙◌}
 use mathlib.Core.Bool.{Bool, true, false, not, ◌&&◌, ◌||◌}
@@ -156,3 +157,19 @@ mark_no {t = false} e z = refl
 pub chose : {A : Type 0} (t : Bool) (a b x : A) → pick t a b ≡ x → ((t ≡ true) × (a ≡ x)) ⊎ ((t ≡ false) × (b ≡ x))
 chose true a b x e = inl (refl, e)
 chose false a b x e = inr (refl, e)
+
+-- a test as a number
+pub bit_few : (t : Bool) → from_bool t ≤ 1
+bit_few true = omega arith
+bit_few false = omega arith
+
+pub bit_yes : {t : Bool} → t ≡ true → from_bool t ≡ 1
+bit_yes e = rw e refl
+
+pub bit_none : (t : Bool) → from_bool t ≡ 0 → t ≡ false
+bit_none true e = absurd (omega arith)
+bit_none false e = refl
+
+pub bit_when : (t : Bool) → from_bool t ≡ when t 1
+bit_when true = refl
+bit_when false = refl

@@ -8,3 +8,4 @@ pub mod Counts
 pub mod Parts
 pub mod Best
 pub mod Choose
+pub mod Found

@@ -1,5 +1,5 @@
 -- Bounded folds: sums, searches and lists over the numbers below n, and what a loop has written of a slice.
-use Rattle.std.specs.Prelude.{ℕ, zero, suc, ◌+◌, ◌<◌, ◌≤◌, max, Bool, true, false, not, ◌&&◌, ◌||◌, List, [], ◌∷◌, ◌++◌, ltb, eqb, get_or, length, take, drop, replicate, ◌≡◌}
+use Rattle.std.specs.Prelude.{Option, Some, None, ℕ, zero, suc, ◌+◌, ◌<◌, ◌≤◌, max, Bool, true, false, not, ◌&&◌, ◌||◌, List, [], ◌∷◌, ◌++◌, ltb, eqb, get_or, length, take, drop, replicate, ◌≡◌}
 
 -- a if the test holds, else b
 abbrev pub pick : {A : Type 0} → Bool → A → A → A
@@ -97,6 +97,10 @@ same [] [] = true
 same [] (b ∷ m) = false
 same (a ∷ l) [] = false
 same (a ∷ l) (b ∷ m) = eqb a b && same l m
+
+-- i where it is below n, else none
+abbrev pub if_below : ℕ → ℕ → Option ℕ
+if_below n i = pick (ltb i n) (Some i) None
 
 -- document 01's ranges: all costs of a kit, 512 of at most 65,535, and all its widths, 1,024 of these
 abbrev pub most_cost : ℕ

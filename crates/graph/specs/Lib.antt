@@ -6,3 +6,4 @@ pub mod Table
 pub mod Links
 pub mod Coarse
 pub mod Totals
+pub mod Lent

@@ -1,12 +1,95 @@
 // Graphs, rows and tables: clusters at the ends of edges, edges in lists by key, the cut of a table, costs summed by key.
 #![tactic(auto)]
 
-ghost use Rattle.std.specs.Prelude.{◌≡◌, ℕ, ◌<◌, ◌≤◌, max, length, get_or};
+ghost use Rattle.std.specs.Prelude.{◌≡◌, ℕ, ◌<◌, ◌≤◌, max, length, get_or, slice_index};
 ghost use Rattle.folds.specs.Fold.{Read, over};
 ghost use Rattle.graph.specs.Rows.{clusters};
 ghost use Rattle.graph.specs.Totals.{Keyed, Totals};
-ghost use Rattle.graph.specs.Graph.{arcs, joining, through, cut};
+ghost use Rattle.graph.specs.Graph.{identity, arcs, joining, through, cut};
 ghost use Rattle.graph.specs.Links.{Linked, Ends, Joins, Named, Ended, Cluster, Crossing, leave, Leaves};
+
+// A graph by the lists that the caller lends: what each vertex costs; where each edge starts, where it ends and how wide it is.
+// stays: four lists side by side, as C lends them.
+#[derive(Clone, Copy)]
+pub struct Lists<'a> {
+    pub costs: &'a [u16],
+    pub starts: &'a [u16],
+    pub ends: &'a [u16],
+    pub widths: &'a [u16],
+}
+
+// What a call is asked: the graph, how many parts there are to be, and the most that a part may cost.
+#[derive(Clone, Copy)]
+pub struct Problem<'a> {
+    pub lists: Lists<'a>,
+    pub k: usize,
+    pub bound: u32,
+}
+
+// Edges between clusters, at most 1,024: where each starts and where it ends.
+#[derive(Clone, Copy)]
+pub struct EdgeLists<'a> {
+    pub starts: &'a [u16],
+    pub ends: &'a [u16],
+    ghost ended: { Ended starts.now ends.now },
+}
+
+// For each key the first edge that has it, and after each edge the next of the same key.
+// stays: a list ends at the number of edges, as in the definition (`Hop`): entries are 16-bit numbers, which an `Option` would not be.
+#[derive(Clone, Copy)]
+pub struct LinkTable {
+    pub head: [u16; 513],
+    pub next: [u16; 1024],
+}
+
+// Edges, and the lists of those that leave each cluster.
+#[derive(Clone, Copy)]
+pub struct EdgeLinks<'a, 'b> {
+    pub edges: EdgeLists<'a>,
+    pub table: &'b LinkTable,
+    ghost linked: { Linked (leave (joining edges.starts.now edges.ends.now)) (length edges.starts.now) table.now.head table.now.next },
+}
+
+// stays: `first` and `after` hand on what ends a list as it is: a walk tests for it once an edge, as it would for none.
+// stays: walks along links, here and in other crates, count nothing; an iterator would need a law of what it yields beside `Linked`.
+impl EdgeLinks<'_, '_> {
+    // The first edge that leaves u, or how many edges there are.
+    pub fn first(self, u: usize) -> usize
+        requires { u < 512 }
+        ensures { result ≡ slice_index self.entry.table.now.head u }
+    {
+        usize::from(self.table.head[u])
+    }
+
+    // The next edge that leaves the cluster that edge j leaves, or how many edges there are.
+    pub fn after(self, j: usize) -> usize
+        requires { j < length self.edges.starts.now }
+        ensures { result ≡ slice_index self.entry.table.now.next j }
+    {
+        usize::from(self.table.next[j])
+    }
+}
+
+// What is kept of each row: its joined edges, from r × m on for row r, `sizes` of them, and the topological order of its clusters, from r × n on.
+// stays: lists of fixed size, and how much of each is used: no heap, so that the rows lie end to end.
+#[derive(Drop)]
+pub struct RowStore<'a> {
+    pub froms: &'a mut [u16],
+    pub tos: &'a mut [u16],
+    pub wides: &'a mut [u32],
+    pub sizes: [u16; 9],
+    pub orders: [u16; 4608],
+}
+
+// Row 0: each entry becomes its own index, so that each vertex is its own cluster.
+pub fn number_entries(row: &mut [u16])
+    requires { length row.old ≤ 65536 }
+    ensures { row.new ≡ identity (length row.old) }
+{
+    for (v, entry) in row.iter_mut().enumerate() {
+        *entry = v as u16;
+    }
+}
 
 // The cluster at which edge j has its end.
 pub fn cluster(row: &[u16], ends: &[u16], j: usize) -> usize
@@ -14,8 +97,7 @@ pub fn cluster(row: &[u16], ends: &[u16], j: usize) -> usize
     requires j_in_bounds { j < length ends.now }
     ensures { Cluster row.now ends.now j result }
 {
-    let v = folds::at16(ends, j);
-    folds::at16(row, v)
+    usize::from(row[usize::from(ends[j])])
 }
 
 // The cluster at which edge i has its end, in a list that names clusters.
@@ -24,38 +106,35 @@ pub fn end_at(ends: &[u16], i: usize) -> usize
     requires i_in_bounds { i < length ends.now }
     ensures { Read ends.now i 512 result }
 {
-    folds::at16(ends, i)
+    usize::from(ends[i])
 }
 
-// The cluster that edge j leaves at its near end, or 512 where it has one cluster at both ends.
-fn leaving_at(near: &[u16], far: &[u16], j: usize) -> usize
-    requires ended { Ended near.now far.now }
-    requires j_in_bounds { j < length near.now }
-    ensures { Leaves (joining near.now far.now) j result }
+// The cluster that edge j leaves, or 512 where it has one cluster at both ends.
+// stays: 512 for none: `head` has a place for it, so that a write needs no branch.
+fn leaving_at(edges: EdgeLists<'_>, j: usize) -> usize
+    requires { j < length edges.starts.now }
+    ensures { Leaves (joining edges.entry.starts.now edges.entry.ends.now) j result }
 {
-    let a = end_at(near, j);
-    let b = end_at(far, j);
+    let a = end_at(edges.starts, j);
+    let b = end_at(edges.ends, j);
     if a == b { 512 } else { a }
 }
 
-// Fills the lists of the edges that leave a cluster, by the cluster of their near end, from the last edge down.
-pub fn link_leaving(near: &[u16], far: &[u16], head: &mut [u16; 513], next: &mut [u16; 1024])
-    requires ended { Ended near.now far.now }
-    requires next_len { length next.old ≡ 1024 }
-    ensures { Linked (leave (joining near.now far.now)) (length near.now) head.new next.new }
+// Fills the lists of the edges that leave each cluster, from the last edge down.
+pub fn link_leaving(edges: EdgeLists<'_>, links: &mut LinkTable)
+    ensures { Linked (leave (joining edges.entry.starts.now edges.entry.ends.now)) (length edges.entry.starts.now) links.new.head links.new.next }
 {
-    let m = near.len();
-    *head = [m as u16; 513];
-    let mut j: usize = m;
-    while j > 0 {
-        j -= 1;
-        let a = leaving_at(near, far, j);
-        next[j] = head[a];
-        head[a] = j as u16;
+    let m = edges.starts.len();
+    links.head = [m as u16; 513];
+    for j in (0..m).rev() {
+        let a = leaving_at(edges, j);
+        links.next[j] = links.head[a];
+        links.head[a] = j as u16;
     }
 }
 
 // The width of edge j where its ends lie in different parts, else 0.
+// stays: a table and three lists, here and in `cut_of`: `Joins` speaks of both, and a type of both would be built for one caller.
 pub fn crossing(parts: &[u16], starts: &[u16], ends: &[u16], widths: &[u16], j: usize) -> u32
     requires joins { Joins parts.now starts.now ends.now }
     requires j_in_bounds { (j < length starts.now) × (length widths.now ≡ length starts.now) }
@@ -66,7 +145,7 @@ pub fn crossing(parts: &[u16], starts: &[u16], ends: &[u16], widths: &[u16], j: 
     if a == b {
         return 0;
     }
-    widths[j] as u32
+    u32::from(widths[j])
 }
 
 // The cut of a table.
@@ -75,21 +154,11 @@ pub fn cut_of(parts: &[u16], starts: &[u16], ends: &[u16], widths: &[u16]) -> u3
     requires widths_len { length widths.now ≡ length starts.now }
     ensures { result ≡ cut (arcs parts.now starts.now ends.now) widths.now }
 {
-    let mut sum: u32 = 0;
-    let mut j: usize = 0;
-    while j < starts.len() {
+    let mut sum = 0;
+    for j in 0..starts.len() {
         sum += crossing(parts, starts, ends, widths, j);
-        j += 1;
     }
     sum
-}
-
-// An entry as a u32, with its bound.
-fn entry(s: &[u16], i: usize) -> u32
-    requires { i < length s.now }
-    ensures { Read s.now i 65536 result }
-{
-    s[i] as u32
 }
 
 // Adds each cost to the sum of its key.
@@ -98,31 +167,18 @@ pub fn sum_costs(keys: &[u16], costs: &[u16], sums: &mut [u32])
     requires by_index { (u : ℕ) → u < length sums.old → get_or sums.old u 0 ≡ 0 }
     ensures { Totals keys.now costs.now (length sums.old) (length costs.now) sums.new }
 {
-    let n = costs.len();
-    let mut v: usize = 0;
-    while v < n {
-        let c = folds::at16(keys, v);
-        sums[c] = sums[c] + entry(costs, v);
-        v += 1;
+    for v in 0..costs.len() {
+        sums[usize::from(keys[v])] += u32::from(costs[v]);
     }
-}
-
-pub fn larger(a: usize, b: usize) -> usize
-    ensures { result ≡ max a b }
-{
-    if a < b { b } else { a }
 }
 
 // How many clusters a row has.
 pub fn cluster_count(row: &[u16]) -> usize
     ensures { result ≡ clusters row.now }
 {
-    let n = row.len();
     let mut count: usize = 0;
-    let mut v: usize = 0;
-    while v < n {
-        count = larger(count, folds::at16(row, v) + 1);
-        v += 1;
+    for c in row {
+        count = count.max(usize::from(*c) + 1);
     }
     count
 }
@@ -130,13 +186,10 @@ pub fn cluster_count(row: &[u16]) -> usize
 // The entry of `table` for the cluster of each vertex, over the front of out.
 pub fn through(row: &[u16], table: &[u16; 512], out: &mut [u16])
     requires by_index { (v : ℕ) → v < length row.now → get_or row.now v 0 < 512 }
-    requires table_len { (length table.now ≡ 512) × (length row.now ≤ length out.old) }
+    requires table_len { length row.now ≤ length out.old }
     ensures { out.new ≡ over (through row.now table.now) out.old }
 {
-    let mut v: usize = 0;
-    while v < row.len() {
-        let c = folds::at16(row, v);
-        out[v] = table[c];
-        v += 1;
+    for (v, c) in row.iter().enumerate() {
+        out[v] = table[usize::from(*c)];
     }
 }

@@ -5,9 +5,9 @@ use mathlib.Core.Bool.{true, false}
 use mathlib.Core.Logic.{inl, inr}
 use mathlib.Core.List.{List}
 use native.Mathlib.Omega.{arith}
-use lib.ListN.{length, get_or, set, length-set, get_or-append}
+use Rattle.std.proofs.Common.{get_or-take}
+use lib.ListN.{length, get_or, set, take, length-set, length-take, get_or-append}
 use lib.Seq.{get_or-set_other}
-use borrow.Author.Tests.{ne_eqb}
 use Rattle.folds.specs.Fold.{over, zeros}
 use Rattle.folds.proofs.Cases.{no_bool, by, either, eq_or_ne}
 use Rattle.folds.proofs.Lists.{get_d_zeros}
@@ -80,8 +80,22 @@ over_at : (all l : List ℕ) (i : ℕ) → i < length all → get_or (over all l
 unfolding over
 over_at all l i h = get_or-append all _ 0 i h
 
-pub ordering : (A : Arcs) (g : ℕ) (old : List ℕ) {r : ℕ} {new : List ℕ} → g ≤ 512 → r ≡ length (order_of A g) → new ≡ over (order_of A g) old → Ordering A g new r
+ordering : (A : Arcs) (g : ℕ) (old : List ℕ) {r : ℕ} {new : List ℕ} → g ≤ 512 → r ≡ length (order_of A g) → new ≡ over (order_of A g) old → Ordering A g new r
 ordering A g old lg e q = record { few = omega (arith, order_few A g); count = e; is = λ i l. ap (λ (l : List ℕ). get_or l i 0) q ∙ over_at (order_of A g) old i (omega arith) }
+
+-- the front of what it was written over
+pub front_few : (A : Arcs) (g : ℕ) {r : ℕ} → g ≤ 512 → r ≡ length (order_of A g) → r ≤ 512
+front_few A g l e = omega (arith, order_few A g)
+
+pub front_is : {r : ℕ} (new : List ℕ) → r ≤ 512 → length new ≡ 512 → r ≡ length (take r new)
+front_is new l h = sym (simp length-take (omega arith))
+
+pub ordering_front : (A : Arcs) (g : ℕ) (old : List ℕ) {r : ℕ} {new : List ℕ} → g ≤ 512 → length new ≡ 512 → r ≡ length (order_of A g) → new ≡ over (order_of A g) old
+    → Ordering A g (take r new) (length (take r new))
+ordering_front A g old {r} {new} lg h e q =
+    let O = ordering A g old lg e q in
+    let n : length (take r new) ≡ r = sym (front_is new O.few h) in
+    record { few = omega (arith, O.few); count = n ∙ e; is = λ i l. let z : i < r = omega arith in get_or-take r new i 0 z ∙ O.is i z }
 
 -- nothing is set aside at first; one more
 pub none_aside : (v : ℕ) → marked (zeros 512) v ≡ true → ⊥
@@ -98,10 +112,6 @@ aside_turn {order} {aside₀} {aside} {i} {v} e S =
           either (eq_or_ne u v) (λ q. inr (i, omega arith, sym e ∙ sym q))
           (λ n. either (S.from u (rw (get_or-set_other aside v u 1 0 n) at t)) inl (λ x. let (j, l, w) = x in inr (j, omega arith, w)));
     }
-
--- a mark that is not 0
-pub is_aside : {A : Arcs} {g : ℕ} {aside : List ℕ} (v : ℕ) → OffCycles A g aside → (get_or aside v 0 ≡ 0 → ⊥) → on_cycle A g v ≡ false
-is_aside {aside = aside} v O n = O.off v (rw (ne_eqb (get_or aside v 0) 0 n))
 
 -- what the order took are numbers below 512
 pub ordering_low : {A : Arcs} {g n : ℕ} {order : List ℕ} → Inside A g → g ≤ 512 → Ordering A g order n → (i : ℕ) → i < n → get_or order i 0 < 512

@@ -8,13 +8,15 @@ use native.Mathlib.Omega.{arith}
 use lib.Dec.{eqb, ltb}
 use lib.ListN.{length, get_or, set, replicate, length-set}
 use lib.Seq.{get_or-set_same, get_or-set_other}
-use borrow.Author.Tests.{eqb-true, eq-eqb, ne_eqb, lt-ltb, le-ltb}
-use Rattle.folds.specs.Fold.{pick, when, first_to, zeros}
+use borrow.Author.Tests.{eqb-true, eq-eqb, ne_eqb, lt-ltb, le-ltb, ltb-true}
+use Rattle.folds.specs.Fold.{pick, when, first_to, zeros, if_below}
+use Rattle.std.specs.Prelude.{Option, Some, None}
+use Rattle.folds.proofs.Found.{is_below, not_below}
 use Rattle.folds.proofs.Cases.{either, eq_or_ne, both, and_false}
 use Rattle.folds.proofs.Searches.{first_to_hit, first_to_below, first_to_found, first_to_all}
 use Rattle.folds.proofs.Lists.{get_d_zeros, set_sub}
 use Rattle.pool.specs.Pool.{Kept, put_of, taken_of, lowest_of}
-use Rattle.pool.proofs.Pools.{pool_none, pool_same, pool_lowest, pool_put, pool_take, length-put}
+use Rattle.pool.proofs.Pools.{pool_none, pool_same, pool_lowest, pool_put, pool_take}
 use Rattle.ordering.specs.Counts.{free, open_at, TakenFree, TakenOff}
 
 open_is : (g : ℕ) (marks count : List ℕ) (v : ℕ) → v < g → open_at g marks count v ≡ free marks count v
@@ -60,9 +62,9 @@ module _ (count : List ℕ) where
       (λ n. rw (e, ne_eqb (get_or count i 0) 0 n) (pool_same _ pool K _ (λ x _. either (eq_or_ne x i) (λ q. rw q (waiting (i + 1) _ count i n ∙ sym (shut i _ count i (omega arith)))) (more i x))))
 
 -- an edge from u to b
-module _ (u b g : ℕ) (count pool : List ℕ) (l : b < 512) (tall : length count ≡ 512) (wide : length pool ≡ 9) where
+module _ (u b g : ℕ) (count pool : List ℕ) (l : b < 512) (tall : length count ≡ 512) where
   pub pass_none : u ≡ b → TakenOff u b g count pool count pool
-  pass_none e = record { tall = tall; wide = wide; is = λ v _. rw (eq-eqb u b e) (none (eqb b v) (get_or count v 0)); keeps = λ _ _ k. k }
+  pass_none e = record { tall = tall; is = λ v _. rw (eq-eqb u b e) (none (eqb b v) (get_or count v 0)); keeps = λ _ _ k. k }
     where
       none : (t : Bool) (x : ℕ) → x + when t 0 ≡ x
       none true x = add-zero x
@@ -93,7 +95,7 @@ module _ (u b g : ℕ) (count pool : List ℕ) (l : b < 512) (tall : length coun
     pub pass_high : g ≤ b → TakenOff u b g count pool (set count b (get_or count b 0 - 1)) pool
     unfolding less
     pass_high h =
-        record { tall = length-set count b (get_or count b 0 - 1) ∙ tall; wide = wide; is = fewer; keeps = λ marks _. idle marks (shut g marks less b h) }
+        record { tall = length-set count b (get_or count b 0 - 1) ∙ tall; is = fewer; keeps = λ marks _. idle marks (shut g marks less b h) }
 
     pub pass_low : (pool' : List ℕ) → b < g → pool' ≡ pick (eqb (get_or count b 0 - 1) 0) (put_of pool b) pool
         → TakenOff u b g count pool (set count b (get_or count b 0 - 1)) pool'
@@ -104,7 +106,6 @@ module _ (u b g : ℕ) (count pool : List ℕ) (l : b < 512) (tall : length coun
         rw (e, eq-eqb (get_or count b 0 - 1) 0 z)
         record {
           tall = length-set count b (get_or count b 0 - 1) ∙ tall;
-          wide = length-put pool b ∙ wide;
           is = fewer;
           keeps = λ marks S K.
               pool_put _ pool K _ b l (λ x _. beside marks x)
@@ -115,31 +116,39 @@ module _ (u b g : ℕ) (count pool : List ℕ) (l : b < 512) (tall : length coun
         rw (e, ne_eqb (get_or count b 0 - 1) 0 z)
         record {
           tall = length-set count b (get_or count b 0 - 1) ∙ tall;
-          wide = wide;
           is = fewer;
           keeps = λ marks _. idle marks (waiting g marks less b (λ q. z (sym at_b ∙ q)));
         })
 
 -- the lowest that is open, u, is taken
-module _ (g : ℕ) (marks count pool : List ℕ) (u : ℕ) (small : g ≤ 512) (K : Kept (open_at g marks count) pool) (e : u ≡ lowest_of pool) where
-  first : u ≡ first_to 512 (open_at g marks count)
-  first = e ∙ pool_lowest _ pool K
+module _ (g : ℕ) (marks count pool : List ℕ) (small : g ≤ 512) (K : Kept (open_at g marks count) pool) {r : Option ℕ} (d : r ≡ lowest_of pool) where
+  below : (k : ℕ) → k < first_to 512 (open_at g marks count) → k < g → free marks count k ≡ false
+  below k l h = sym (open_is g marks count k h) ∙ first_to_below 512 (open_at g marks count) k l
 
-  below : (k : ℕ) → k < u → k < g → free marks count k ≡ false
-  below k l h = sym (open_is g marks count k h) ∙ first_to_below 512 (open_at g marks count) k (rw first at l)
+  lowest : r ≡ if_below 512 (first_to 512 (open_at g marks count))
+  lowest = d ∙ pool_lowest _ pool K
 
-  pub none_open : g ≤ u → g ≡ first_to g (free marks count)
-  none_open l = sym (first_to_all g _ (λ k h. below k (omega arith) h))
+  pub none_open : r ≡ None → g ≡ first_to g (free marks count)
+  none_open e =
+      let l = not_below (sym lowest ∙ e) in
+      sym (first_to_all g _ (λ k h. below k (omega arith) h))
 
-  module _ (l : u < g) where
+  module _ {u : ℕ} (e : r ≡ Some u) where
+    first : u ≡ first_to 512 (open_at g marks count)
+    first = (is_below (sym lowest ∙ e)).0
+
     hit : open_at g marks count u ≡ true
-    hit = let h : u < 512 = omega arith in rw (← first) at (first_to_hit 512 (open_at g marks count) (rw first at h))
+    hit = rw (← first) at (first_to_hit 512 (open_at g marks count) (is_below (sym lowest ∙ e)).1)
+
+    pub low : u < g
+    unfolding open_at
+    low = ltb-true u g (both (ltb u g) (free marks count u) hit).0
 
     is_free : free marks count u ≡ true
-    is_free = sym (open_is g marks count u l) ∙ hit
+    is_free = sym (open_is g marks count u low) ∙ hit
 
     pub first_open : u ≡ first_to g (free marks count)
-    first_open = sym (first_to_found g u _ (first_to_all u _ (λ k h. below k h (omega arith))) is_free l)
+    first_open = sym (first_to_found g u _ (first_to_all u _ (λ k h. below k (rw first at h) (omega (arith, low)))) is_free low)
 
     pub not_taken : get_or marks u 0 ≡ 0
     unfolding free
@@ -154,5 +163,5 @@ module _ (g : ℕ) (marks count pool : List ℕ) (u : ℕ) (small : g ≤ 512) (
 
     pub taken_next : length marks ≡ 512 → Kept (open_at g (set marks u 1) count) (taken_of pool u)
     taken_next t =
-        pool_take _ pool K _ u (omega arith) (λ x _ n. same_at g marks (set marks u 1) count count x (get_or-set_other marks u x 1 0 n) refl) hit
-        (taken_at g (set marks u 1) count u (λ z. let q : ◌≡◌ {A = ℕ} 1 0 = sym (get_or-set_same marks u 1 0 (omega arith)) ∙ z in omega arith))
+        pool_take _ pool K _ u (omega (arith, low)) (λ x _ n. same_at g marks (set marks u 1) count count x (get_or-set_other marks u x 1 0 n) refl) hit
+        (taken_at g (set marks u 1) count u (λ z. let q : ◌≡◌ {A = ℕ} 1 0 = sym (get_or-set_same marks u 1 0 (omega (arith, low))) ∙ z in omega arith))

@@ -14,6 +14,7 @@ use Rattle.folds.specs.Fold.{pick, over, zeros, Wrote}
 use Rattle.folds.proofs.Cases.{by, either, eq_or_ne}
 use Rattle.folds.proofs.Lists.{get_d_zeros, length-zeros}
 use Rattle.folds.proofs.Slices.{length_over}
+use Rattle.folds.proofs.Searches.{first_to_le}
 use Rattle.graph.specs.Walk.{Acyclic}
 use Rattle.graph.specs.Graph.{Arcs, Edge, Inside}
 use Rattle.graph.specs.Links.{Linked, leave}
@@ -21,7 +22,7 @@ use Rattle.graph.proofs.Edges.{arc_edge, edge_arc, edge_other, edge_inside}
 use Rattle.graph.proofs.Links.{On, leave_at, leave_from}
 use Rattle.topology.specs.Order.{order_of, place_in}
 use Rattle.topology.specs.Level.{levels_of, level}
-use Rattle.topology.specs.Reach.{lowest_on_cycle}
+use Rattle.topology.specs.Reach.{lowest_on_cycle, on_cycle}
 use Rattle.topology.proofs.Levels.{length_levels, level_rises, level_from, level_past, over-level}
 use Rattle.topology.proofs.Orders.{order_all, order_below, place_of, place_in_at, order_rises, all_acyclic}
 use Rattle.topology.proofs.Reaches.{none_acyclic}
@@ -182,8 +183,9 @@ module _ (A : Arcs) (g : ℕ) where
       (λ v h. climbed_end A g Y r levels (omega arith) (S.climbed Y) v ∙ sym (over-level A g v))
 
   -- where none lies on a cycle the order takes all
-  pub none_all : {r count : ℕ} → Inside A g → r ≡ lowest_on_cycle A g → count ≡ length (order_of A g) → r ≡ g → count ≡ g
-  none_all inside e h q = h ∙ order_all A g inside (none_acyclic A g inside (sym e ∙ q))
+  pub none_all : {count : ℕ} → Inside A g → g ≤ lowest_on_cycle A g → count ≡ length (order_of A g) → count ≡ g
+  unfolding lowest_on_cycle
+  none_all inside l h = let q : lowest_on_cycle A g ≡ g = omega (arith, first_to_le g (on_cycle A g)) in h ∙ order_all A g inside (none_acyclic A g inside q)
 
 -- what is written next is the next of the order
 pub wrote_next : {l₀ l rest rest' all : List ℕ} {n x : ℕ} → Wrote l₀ l n rest all → rest ≡ x ∷ rest' → x ≡ get_or all n 0

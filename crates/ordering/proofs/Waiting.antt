@@ -8,8 +8,9 @@ use lib.Dec.{eqb}
 use lib.ListN.{length, get_or, set}
 use lib.Seq.{get_or-set_same, get_or-set_other}
 use borrow.Author.Tests.{eq-eqb, ne_eqb, lt-ltb, le-ltb}
+use Rattle.std.specs.Int.{from_bool}
 use Rattle.folds.specs.Fold.{when, sum_to, count_to, first_to, zeros}
-use Rattle.folds.proofs.Cases.{either, eq_or_ne, when_le, when_zero, and_true}
+use Rattle.folds.proofs.Cases.{either, eq_or_ne, when_le, when_zero, and_true, bit_when}
 use Rattle.folds.proofs.Sums.{sum_to_step, sum_to_less, sum_to_ext, sum_to_add}
 use Rattle.folds.proofs.Searches.{first_to_ext, count_none}
 use Rattle.folds.proofs.Lists.{get_d_zeros}
@@ -17,7 +18,7 @@ use Rattle.graph.specs.Graph.{Arcs}
 use Rattle.graph.specs.Links.{Linked, leave}
 use Rattle.graph.proofs.Links.{leave_from, stays, Only, On, sum_on, sum_next}
 use Rattle.topology.specs.Order.{waits, ready, or_none, order_from}
-use Rattle.ordering.specs.Counts.{left, cross, gone, Counted, TakenOff, Released, Across, free}
+use Rattle.ordering.specs.Counts.{left, cross, gone, Counted, TakenOff, Released, free}
 
 module _ (A : Arcs) where
   pub left_le : (marks : List ℕ) (v j : ℕ) → left A marks v j ≤ 1
@@ -32,8 +33,9 @@ module _ (A : Arcs) where
       (λ e. rw (← e, eq-eqb (A.to j) (A.to j) refl, get_d_zeros 512 (A.from j)) (rw and_true refl))
       (λ n. rw (ne_eqb (A.to j) v n))
 
-  pub left_is : {b w : ℕ} (v j : ℕ) → b ≡ A.to j → Across A j w → when (eqb b v) w ≡ left A (zeros 512) v j
-  left_is v j k a = rw (k, a.is) (sym (left-zeros v j))
+  pub left_is : {a b w : ℕ} (v j : ℕ) → a ≡ A.from j → b ≡ A.to j → w ≡ from_bool (not (eqb a b)) → when (eqb b v) w ≡ left A (zeros 512) v j
+  unfolding cross
+  left_is v j h k e = rw (e, h, k, bit_when) (sym (left-zeros v j))
 
   pub gone_is : {b : ℕ} (u v j : ℕ) → A.from j ≡ u → b ≡ A.to j → when (eqb b v) (when (not (eqb u b)) 1) ≡ gone A u v j
   unfolding gone cross
@@ -62,9 +64,9 @@ module _ (A : Arcs) where
       split false = refl
 
   module _ {m : ℕ} {head next : List ℕ} (L : Linked (leave A) m head next) (count₀ pool₀ : List ℕ) (u g : ℕ) (lu : u < 512) where
-    pub released_none : length count₀ ≡ 512 → length pool₀ ≡ 9 → Released A u (get_or head u 0) g count₀ pool₀ count₀ pool₀
-    released_none e h =
-        record { tall = e; wide = h; is = λ v _. omega (arith, sum_on L u (gone A u v) (gone_only u v) lu); keeps = λ _ _ k. k }
+    pub released_none : length count₀ ≡ 512 → Released A u (get_or head u 0) g count₀ pool₀ count₀ pool₀
+    released_none e =
+        record { tall = e; is = λ v _. omega (arith, sum_on L u (gone A u v) (gone_only u v) lu); keeps = λ _ _ k. k }
 
     pub released_room : (j b : ℕ) (count pool : List ℕ) → ((v : ℕ) → v < 512 → sum_to m (gone A u v) ≤ get_or count₀ v 0)
         → On (leave A) m u j → j < m → b ≡ A.to j → b < 512 → Released A u j g count₀ pool₀ count pool → (u ≡ b → ⊥) → 0 < get_or count b 0
@@ -78,7 +80,6 @@ module _ (A : Arcs) where
     released_turn j b count pool count' pool' o l k d c =
         record {
           tall = d.tall;
-          wide = d.wide;
           is = λ v lv. omega (arith, sum_next L u j _ _ (gone A u v) (gone_only u v) o l refl (gone_is u v j (leave_from A j (o.at l) lu) k), d.is v lv, c.is v lv);
           keeps = λ marks s h. d.keeps marks (λ v lv n. omega (arith, s v lv n, c.is v lv)) (c.keeps marks s h);
         }

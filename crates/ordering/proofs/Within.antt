@@ -5,7 +5,9 @@ use mathlib.Core.Bool.{false}
 use mathlib.Core.List.{List}
 use native.Mathlib.Omega.{arith}
 use lib.ListN.{get_or}
-use Rattle.folds.proofs.Cases.{by, either, eq_or_ne}
+use Rattle.folds.proofs.Cases.{by, either, eq_or_ne, bit_few, bit_none}
+use Rattle.std.specs.Int.{from_bool}
+use Rattle.std.proofs.Common.{ltb, ltb-false}
 use Rattle.graph.specs.Walk.{Walk, one, more}
 use Rattle.graph.specs.Graph.{Arcs, Edge}
 use Rattle.graph.proofs.Edges.{edge_arc, edge_other}
@@ -25,12 +27,12 @@ module _ (A : Arcs) (class : List ℕ) where
   pub tried_none : (g : ℕ) → Tried 0 g 0
   tried_none g = record { few = omega arith; up = λ _ i l. absurd (omega arith); least = λ i l. absurd (omega arith) }
 
-  pub tried_turn : {j low sum a b f r : ℕ} → a ≡ A.from j → b ≡ A.to j → (f ≤ 1) × (f ≡ 0 → class_of a ≤ class_of b)
+  pub tried_turn : {j low sum a b f r : ℕ} → a ≡ A.from j → b ≡ A.to j → f ≡ from_bool (ltb (class_of b) (class_of a))
       → (r ≤ low) × ((a ≡ b → ⊥) → class_of a ≡ class_of b → r ≤ a) → Tried j low sum → Tried (j + 1) r (sum + f)
   tried_turn {j} {a = a} {b = b} ea eb F R T =
       record {
-        few = omega (arith, F.0, T.few);
-        up = λ z i l. either (eq_or_ne i j) (λ q. rw (q, ← ea, ← eb) (F.1 (omega arith))) (λ n. T.up (omega arith) i (omega arith));
+        few = omega (arith, F, bit_few (ltb (class_of b) (class_of a)), T.few);
+        up = λ z i l. either (eq_or_ne i j) (λ q. rw (q, ← ea, ← eb) (ltb-false (class_of b) (class_of a) (bit_none _ (omega (arith, F))))) (λ n. T.up (omega arith) i (omega arith));
         least = λ i l. either (eq_or_ne i j) (λ q. rw (q, ← ea, ← eb) R.1) (λ n d e. omega (arith, R.0, T.least i (omega arith) d e));
       }
 

@@ -1,5 +1,5 @@
 -- Counts of the edges that still wait, by which the order is found fast.
-use Rattle.std.specs.Prelude.{ℕ, ◌+◌, ◌≤◌, ◌<◌, ◌≡◌, Bool, not, ◌&&◌, List, eqb, ltb, length, get_or}
+use Rattle.std.specs.Prelude.{ℕ, ◌+◌, ◌<◌, ◌≡◌, Bool, not, ◌&&◌, List, eqb, ltb, length, get_or}
 use Rattle.folds.specs.Fold.{when, sum_to}
 use Rattle.graph.specs.Graph.{Arcs}
 use Rattle.pool.specs.Pool.{Kept}
@@ -37,17 +37,11 @@ TakenFree marks count = (v : ℕ) → v < 512 → (get_or marks v 0 ≡ 0 → �
 -- an edge from u to b no longer counts, unless b is u, and the pool of the open ones follows
 pub record TakenOff (u b g : ℕ) (count pool count' pool' : List ℕ) : Type 0 where
   pub tall : length count' ≡ 512
-  pub wide : length pool' ≡ 9
   pub is : (v : ℕ) → v < 512 → get_or count' v 0 + when (eqb b v) (when (not (eqb u b)) 1) ≡ get_or count v 0
   pub keeps : (marks : List ℕ) → TakenFree marks count → Kept (open_at g marks count) pool → Kept (open_at g marks count') pool'
 
 -- the edges of u below j no longer count, and the pool of the open ones follows
 pub record Released (A : Arcs) (u j g : ℕ) (count pool count' pool' : List ℕ) : Type 0 where
   pub tall : length count' ≡ 512
-  pub wide : length pool' ≡ 9
   pub is : (v : ℕ) → v < 512 → get_or count' v 0 + sum_to j (gone A u v) ≡ get_or count v 0
   pub keeps : (marks : List ℕ) → TakenFree marks count → Kept (open_at g marks count) pool → Kept (open_at g marks count') pool'
-
-pub record Across (A : Arcs) (j r : ℕ) : Type 0 where
-  pub is : r ≡ cross A j
-  pub low : r ≤ 1

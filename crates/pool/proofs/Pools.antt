@@ -11,9 +11,11 @@ use lib.Dec.{eqb}
 use lib.ListN.{length, get_or, set, length-set, replicate, get_or-replicate}
 use lib.Seq.{get_or-set_same, get_or-set_other, set-get_or}
 use borrow.Author.Tests.{eqb-true, eq-eqb, ne_eqb}
-use Rattle.folds.specs.Fold.{first_to}
+use Rattle.std.specs.Prelude.{Some}
+use Rattle.folds.specs.Fold.{first_to, if_below}
 use Rattle.folds.proofs.Cases.{by, either, eq_or_ne, no_bool, not_no}
-use Rattle.folds.proofs.Searches.{first_to_found, first_to_hit, first_to_below, first_to_all}
+use Rattle.folds.proofs.Found.{found_at, below_none}
+use Rattle.folds.proofs.Searches.{first_to_hit, first_to_below, first_to_all}
 use Rattle.pool.specs.Pool.{word, busy, Kept, put_of, taken_of, lowest_of}
 use Rattle.pool.proofs.Words.{word_ext, word_none, none_word, some_first, zeros_word, word_or, word_xor}
 
@@ -58,13 +60,13 @@ module _ (p : ℕ → Bool) (words : List ℕ) (K : Kept p words) where
   pub pool_safe : (get_or words 8 0 ≡ 0 → ⊥) → count_trailing_zeros 64 (get_or words 8 0) < 8
   pool_safe n = rw (word_is n) (first_word n)
 
-  found : (w : ℕ) → w ≡ first_to 8 (busy words) → w < 8 → w * 64 + count_trailing_zeros 64 (get_or words w 0) ≡ first_to 512 p
+  found : (w : ℕ) → w ≡ first_to 8 (busy words) → w < 8 → Some (w * 64 + count_trailing_zeros 64 (get_or words w 0)) ≡ if_below 512 (first_to 512 p)
   found w e l =
       let t : busy words w ≡ true = rw (← e) at (first_to_hit 8 (busy words) (rw e at l)) in
       let n : word 64 (λ i. p (w * 64 + i)) ≡ 0 → ⊥ = λ z. no_bool (sym (is_idle words w (K.is w l ∙ z)) ∙ t) in
       let h = some_first 64 (λ i. p (w * 64 + i)) n in
       let q : count_trailing_zeros 64 (get_or words w 0) ≡ first_to 64 (λ i. p (w * 64 + i)) = ap (count_trailing_zeros 64) (K.is w l) ∙ zeros_word 64 64 _ (omega arith) h in
-      rw q (sym (first_to_found 512 _ p (first_to_all _ p (below h)) (first_to_hit 64 (λ i. p (w * 64 + i)) h) (omega arith)))
+      rw q (found_at p (first_to_all _ p (below h)) (first_to_hit 64 (λ i. p (w * 64 + i)) h) (omega arith))
     where
       below : first_to 64 (λ i. p (w * 64 + i)) < 64 → (x : ℕ) → x < w * 64 + first_to 64 (λ i. p (w * 64 + i)) → p x ≡ false
       below h x g =
@@ -73,11 +75,13 @@ module _ (p : ℕ → Bool) (words : List ℕ) (K : Kept p words) where
           (λ s. rw d at (rw (← s) at (first_to_below 64 (λ i. p (w * 64 + i)) (x % 64) (omega arith))))
           (λ s. none x (omega arith) (idle_zero words (x / 64) (first_to_below 8 (busy words) (x / 64) (omega arith))))
 
-  pub pool_lowest : lowest_of words ≡ first_to 512 p
+  pub pool_lowest : lowest_of words ≡ if_below 512 (first_to 512 p)
   unfolding lowest_of
   pool_lowest =
       either (eq_or_ne (get_or words 8 0) 0)
-      (λ z. rw (eq-eqb (get_or words 8 0) 0 z) (sym (first_to_all 512 p (λ x l. none x l (idle_zero words (x / 64) (none_word 8 (busy words) (sym K.top ∙ z) (x / 64) (high x l)))))))
+      (λ z.
+      let e : first_to 512 p ≡ 512 = first_to_all 512 p (λ x l. none x l (idle_zero words (x / 64) (none_word 8 (busy words) (sym K.top ∙ z) (x / 64) (high x l)))) in
+      rw (eq-eqb (get_or words 8 0) 0 z) (below_none (omega arith)))
       (λ n. rw (ne_eqb (get_or words 8 0) 0 n) (found _ (word_is n) (pool_safe n)))
 
   module _ (q : ℕ → Bool) (v : ℕ) (l : v < 512) (same : (x : ℕ) → x < 512 → (x ≡ v → ⊥) → q x ≡ p x) where

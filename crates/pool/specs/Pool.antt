@@ -1,5 +1,5 @@
 -- A set of numbers below 512 in nine words: eight of 64 bits, and one whose bits say which of the eight are not 0.
-use Rattle.std.specs.Prelude.{ℕ, zero, suc, ◌+◌, ◌*◌, ◌/◌, ◌%◌, ◌^◌, ◌<◌, ◌≡◌, Bool, not, List, eqb, length, get_or, set}
+use Rattle.std.specs.Prelude.{Option, Some, None, ℕ, zero, suc, ◌+◌, ◌*◌, ◌/◌, ◌%◌, ◌^◌, ◌<◌, ◌≡◌, Bool, not, List, eqb, length, get_or, set}
 use Rattle.std.specs.Int.Bits.{bit_or, bit_xor}
 use Rattle.std.specs.Int.Count.{count_trailing_zeros}
 use Rattle.folds.specs.Fold.{pick, when}
@@ -31,8 +31,8 @@ taken_of words v =
     let l = set words (v / 64) x in
     pick (eqb x 0) (set l 8 (bit_xor (get_or l 8 0) (2 ^ (v / 64)))) l
 
--- the lowest that is in, or 512
-unfoldable pub lowest_of : List ℕ → ℕ
+-- the lowest that is in, if any
+unfoldable pub lowest_of : List ℕ → Option ℕ
 lowest_of words =
     let w = count_trailing_zeros 64 (get_or words 8 0) in
-    pick (eqb (get_or words 8 0) 0) 512 (w * 64 + count_trailing_zeros 64 (get_or words w 0))
+    pick (eqb (get_or words 8 0) 0) None (Some (w * 64 + count_trailing_zeros 64 (get_or words w 0)))

@@ -1,9 +1,16 @@
 // Numbers below 512 in nine words: eight of 64 bits, and one whose bits say which of the eight are not 0.
 #![tactic(auto)]
 
-ghost use Rattle.std.specs.Prelude.{◌≡◌, ◌^◌, ◌<◌, length, get_or};
+ghost use Rattle.std.specs.Prelude.{◌≡◌, ◌^◌, ◌<◌, get_or, replicate};
 ghost use Rattle.std.specs.Int.Count.{count_trailing_zeros};
 ghost use Rattle.pool.specs.Pool.{put_of, taken_of, lowest_of};
+
+// A set of numbers below 512.
+// stays: the ninth word is no field of its own, since the definitions (`put_of`, `taken_of`) speak of one list of nine.
+#[derive(Clone, Copy)]
+pub struct Numbers {
+    pub words: [u64; 9],
+}
 
 // The word that has bit i alone.
 pub fn bit(i: usize) -> u64
@@ -19,38 +26,46 @@ fn low_bit(x: u64) -> usize
     u64::trailing_zeros(x) as usize
 }
 
-// Puts v in.
-pub fn put(pool: &mut [u64; 9], v: usize)
-    requires { (v < 512) × (length pool.old ≡ 9) }
-    ensures { pool.new ≡ put_of pool.old v }
-{
-    let w = v / 64;
-    pool[w] = pool[w] | bit(v % 64);
-    pool[8] = pool[8] | bit(w);
-}
-
-// Takes v out, which is in.
-pub fn take(pool: &mut [u64; 9], v: usize)
-    requires { (v < 512) × (length pool.old ≡ 9) }
-    ensures { pool.new ≡ taken_of pool.old v }
-{
-    let w = v / 64;
-    let x = pool[w] ^ bit(v % 64);
-    pool[w] = x;
-    if x == 0 {
-        pool[8] = pool[8] ^ bit(w);
+impl Numbers {
+    pub fn new() -> Numbers
+        ensures { result.words ≡ replicate 9 0 }
+    {
+        Numbers { words: [0; 9] }
     }
-}
 
-// The lowest that is in, or 512.
-pub fn lowest(pool: &[u64; 9]) -> usize
-    requires { (get_or pool.now 8 0 ≡ 0 → ⊥) → count_trailing_zeros 64 (get_or pool.now 8 0) < 8 }
-    ensures { result ≡ lowest_of pool.now }
-{
-    let top = pool[8];
-    if top == 0 {
-        return 512;
+    // Puts v in.
+    pub fn put(&mut self, v: usize)
+        requires { v < 512 }
+        ensures { self.new.words ≡ put_of self.old.words v }
+    {
+        let w = v / 64;
+        self.words[w] |= bit(v % 64);
+        self.words[8] |= bit(w);
     }
-    let w = low_bit(top);
-    w * 64 + low_bit(pool[w])
+
+    // Takes v out, which is in.
+    pub fn take(&mut self, v: usize)
+        requires { v < 512 }
+        ensures { self.new.words ≡ taken_of self.old.words v }
+    {
+        let w = v / 64;
+        let x = self.words[w] ^ bit(v % 64);
+        self.words[w] = x;
+        if x == 0 {
+            self.words[8] ^= bit(w);
+        }
+    }
+
+    // The lowest that is in, if any.
+    pub fn lowest(&self) -> Option<usize>
+        requires { (get_or self.now.words 8 0 ≡ 0 → ⊥) → count_trailing_zeros 64 (get_or self.now.words 8 0) < 8 }
+        ensures { result ≡ lowest_of self.now.words }
+    {
+        let top = self.words[8];
+        if top == 0 {
+            return None;
+        }
+        let w = low_bit(top);
+        Some(w * 64 + low_bit(self.words[w]))
+    }
 }

@@ -3,7 +3,7 @@ use Rattle.std.proofs.Common.{◌-◌, ◌≤◌, length}
 use Rattle.cycle_test.proofs.is_thick.Given as goal
 
 abbrev pub invariant-loop-j : goal.invariant-loop-j
-invariant-loop-j l = (1 ≤ l.step) × (l.step ≤ 1024) × (l.kept ≤ l.tried) × (l.tried ≤ l.j) × (l.tried ≤ length l.ends)
+invariant-loop-j l = (l.kept ≤ l.tried) × (l.tried ≤ l.j) × (l.tried ≤ length l.ends)
 
 abbrev pub decreases-loop-j : goal.decreases-loop-j
 decreases-loop-j l = length l.ends - l.j

@@ -4,7 +4,4 @@ use Rattle.std.proofs.Common.{◌≡◌, ◌≤◌, length}
 use Rattle.cycle_test.proofs.link.Given as goal
 
 abbrev pub invariant-loop-j : goal.invariant-loop-j
-invariant-loop-j l = (l.m ≡ length l.starts) × (l.j ≤ l.m) × Filling l.m l.j l.cells l.arcs
-
-abbrev pub decreases-loop-j : goal.decreases-loop-j
-decreases-loop-j l = l.j
+invariant-loop-j l = (l.m ≡ length l.edges.starts.now) × (l.j ≤ l.m) × Filling l.m l.j l.cells l.arcs

@@ -1,15 +1,15 @@
 use Rattle.cycle_test.proofs.Thins.{marked_none, marked_next, marked_end}
-use Rattle.std.proofs.Common.{refl}
+use Rattle.std.proofs.Common.{refl, arith}
 use Rattle.cycle_test.proofs.mark.Goals as goal
 
-pub loop-j-init : goal.loop-j-init
-loop-j-init c = marked_none _ refl
+pub loop-a-init : goal.loop-a-init
+loop-a-init c = marked_none _ refl
 
-pub bounds-left-wide : goal.bounds-left-wide
-bounds-left-wide c = rw c.wide.ensures (c.requires.low _ c.loop-j-test.true)
+pub bounds-left-from : goal.bounds-left-from
+bounds-left-from c = rw c.from.ensures (c.requires.low _ (omega arith))
 
-pub loop-j-preserved : goal.loop-j-preserved
-loop-j-preserved c = marked_next _ c.wide.ensures (rw c.wide.ensures (c.requires.low _ c.loop-j-test.true)) c.loop-j.invariant
+pub loop-a-preserved : goal.loop-a-preserved
+loop-a-preserved c = marked_next _ c.from.ensures (rw c.from.ensures (c.requires.low _ (omega arith))) c.loop-a.invariant
 
 pub returns : goal.returns
-returns c = marked_end _ c.loop-j-test.false c.loop-j.invariant
+returns c = marked_end _ (omega arith) c.loop-a.invariant

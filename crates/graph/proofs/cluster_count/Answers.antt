@@ -1,22 +1,14 @@
 use Rattle.graph.proofs.Totals.{count_none, count_turn}
 use Rattle.graph.specs.Rows.{clusters}
-use mathlib.Core.Path.{◌≡◌, refl}
-use native.Mathlib.Omega.{arith}
-use lib.ListN.{length}
+use Rattle.std.proofs.Common.{◌≡◌, length, arith}
 use Rattle.graph.proofs.cluster_count.Goals as goal
 
-pub loop-v-init : goal.loop-v-init
-unfolding clusters
-loop-v-init c = (omega arith, refl, count_none _)
+pub loop-c-init : goal.loop-c-init
+loop-c-init c = count_none _
 
-pub overflow_add-at16 : goal.overflow_add-at16
-unfolding clusters
-overflow_add-at16 c = omega (arith, c.at16.ensures.low)
-
-pub loop-v-preserved : goal.loop-v-preserved
-unfolding clusters
-loop-v-preserved c = (omega arith, refl, count_turn _ c.loop-v.invariant.2 c.at16.ensures c.larger-count.ensures)
+pub loop-c-preserved : goal.loop-c-preserved
+loop-c-preserved c = count_turn _ _ c.loop-c.invariant c.from.ensures c.max-count.ensures
 
 pub returns : goal.returns
 unfolding clusters
-returns c = let q : c.loop-v.v ≡ length c.args.row.now = omega arith in rw q at c.loop-v.invariant.2
+returns c = let q : c.loop-c.c-index ≡ length c.args.row.now = omega arith in rw q at c.loop-c.invariant

@@ -8,7 +8,4 @@ use Prim.Native.Nat.{◌≤◌}
 use Rattle.graph.proofs.link_leaving.Given as goal
 
 abbrev pub invariant-loop-j : goal.invariant-loop-j
-invariant-loop-j l = (l.m ≡ length l.near) × (l.j ≤ l.m) × Made (leave (joining l.near l.far)) l.m l.j l.head l.next
-
-abbrev pub decreases-loop-j : goal.decreases-loop-j
-decreases-loop-j l = l.j
+invariant-loop-j l = (l.m ≡ length l.edges.starts.now) × (l.j ≤ l.m) × Made (leave (joining l.edges.starts.now l.edges.ends.now)) l.m l.j l.links.head l.links.next

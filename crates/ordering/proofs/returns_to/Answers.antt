@@ -5,34 +5,30 @@ use mathlib.Core.Logic.{inl, inr}
 use borrow.Author.Rules.{rules}
 use Rattle.ordering.proofs.returns_to.Goals as goal
 
-pub spread-count-requires : goal.spread-count-requires
+pub spread-requires : goal.spread-requires
 unfolding zeros
-spread-count-requires c = record {
-  ended = c.requires.ended;
-  linked = c.requires.linked;
+spread-requires c = record {
   queued = queued_none _ _;
-  u_bound = (c.requires.v_bound, inl refl);
+  u_bound = (c.requires, inl refl);
 }
 
 pub loop-i-init : goal.loop-i-init
 unfolding zeros
-loop-i-init c = searched_first c.spread-count.ensures
+loop-i-init c = searched_first c.spread.ensures
 
-pub offset_bounds-queue-i : goal.offset_bounds-queue-i
+pub offset_bounds-reached-i : goal.offset_bounds-reached-i
 unfolding zeros
-offset_bounds-queue-i c = let f = queued_few c.loop-i.invariant.now in search rules
+offset_bounds-reached-i c = let f = queued_few c.loop-i.invariant.now in search rules
 
-pub bounds-queue-i : goal.bounds-queue-i
+pub bounds-reached-i : goal.bounds-reached-i
 unfolding zeros
-bounds-queue-i c = let f = queued_few c.loop-i.invariant.now in search rules
+bounds-reached-i c = let f = queued_few c.loop-i.invariant.now in search rules
 
-pub spread-count-requires-in-loop-i : goal.spread-count-requires-in-loop-i
+pub spread-requires-in-loop-i : goal.spread-requires-in-loop-i
 unfolding zeros
-spread-count-requires-in-loop-i c = record {
-  ended = c.requires.ended;
-  linked = c.requires.linked;
+spread-requires-in-loop-i c = record {
   queued = c.loop-i.invariant.now;
-  u_bound = (rw c.wide-u.ensures (queued_low c.loop-i.invariant.now c.loop-i-test.true), inr (rw c.wide-u.ensures (c.loop-i.invariant.now.entries _ c.loop-i-test.true)));
+  u_bound = (rw c.from-u.ensures (queued_low c.loop-i.invariant.now c.loop-i-test.true), inr (rw c.from-u.ensures (c.loop-i.invariant.now.entries _ c.loop-i-test.true)));
 }
 
 pub overflow_add-i : goal.overflow_add-i
@@ -45,8 +41,8 @@ loop-i-smaller c = let f = queued_few c.loop-i.invariant.now in search rules
 
 pub loop-i-preserved : goal.loop-i-preserved
 unfolding zeros
-loop-i-preserved c = searched_turn c.loop-i.invariant c.loop-i-test.true c.wide-u.ensures c.spread-count-in-loop-i.ensures
+loop-i-preserved c = searched_turn c.loop-i.invariant c.loop-i-test.true c.from-u.ensures c.spread-in-loop-i.ensures
 
 pub returns : goal.returns
 unfolding zeros
-returns c = searched_end c.requires.inside c.loop-i.invariant c.loop-i-test.false
+returns c = searched_end c.args.clusters.inside c.loop-i.invariant c.loop-i-test.false

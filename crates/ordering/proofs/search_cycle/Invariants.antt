@@ -1,13 +1,9 @@
 -- none below v lies on a cycle
 use Rattle.topology.specs.Reach.{on_cycle}
-use Rattle.graph.specs.Graph.{joining}
+use Rattle.graph.specs.Lent.{arcs_in}
 use Rattle.folds.specs.Fold.{first_to}
 use mathlib.Core.Path.{◌≡◌}
-use Prim.Native.Nat.{◌≤◌, ◌-◌}
 use Rattle.ordering.proofs.search_cycle.Given as goal
 
 abbrev pub invariant-loop-v : goal.invariant-loop-v
-invariant-loop-v l = (l.v ≤ l.g) × (first_to l.v (on_cycle (joining l.starts l.ends) l.g) ≡ l.v)
-
-abbrev pub decreases-loop-v : goal.decreases-loop-v
-decreases-loop-v l = l.g - l.v
+invariant-loop-v l = (first_to l.v (on_cycle (arcs_in l.clusters.links.edges) l.clusters.g) ≡ l.v)

@@ -1,16 +1,15 @@
 use Rattle.ordering.proofs.Free.{aside_first, aside_turn}
-use native.Mathlib.Omega.{arith}
-use mathlib.Core.Path.{◌≡◌}
+use Rattle.std.proofs.Common.{◌≡◌, length, arith}
 use Rattle.ordering.proofs.set_aside.Goals as goal
 
-pub loop-i-init : goal.loop-i-init
-loop-i-init c = (omega arith, aside_first c.requires.aside_len)
+pub loop-v-init : goal.loop-v-init
+loop-v-init c = aside_first (omega arith)
 
-pub bounds-aside-v : goal.bounds-aside-v
-bounds-aside-v c = omega (arith, c.wide-v.ensures, c.requires.n_bound.1 c.loop-i.i c.loop-i-test.true)
+pub bounds-aside-from : goal.bounds-aside-from
+bounds-aside-from c = omega (arith, c.from.ensures, c.requires c.loop-v.v-index (omega arith))
 
-pub loop-i-preserved : goal.loop-i-preserved
-loop-i-preserved c = (omega arith, aside_turn c.wide-v.ensures c.loop-i.invariant.1)
+pub loop-v-preserved : goal.loop-v-preserved
+loop-v-preserved c = aside_turn c.from.ensures c.loop-v.invariant
 
 pub returns : goal.returns
-returns c = let q : c.loop-i.i ≡ c.args.n = omega arith in rw q at c.loop-i.invariant.1
+returns c = let q : c.loop-v.v-index ≡ length c.args.order.now = omega arith in rw q at c.loop-v.invariant
