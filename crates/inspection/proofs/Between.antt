@@ -1,37 +1,34 @@
 -- The edges between parts, written out as lists: what they join is what the table shows.
-use Prim.Native.Nat.{ℕ, ◌≤◌, ◌<◌}
+use Prim.Native.Nat.{ℕ, ◌<◌}
 use mathlib.Core.Path.{◌≡◌, refl, sym, ap, ◌∙◌}
 use mathlib.Core.List.{List}
+use Rattle.std.specs.Prelude.{Result, Ok, Err}
 use native.Mathlib.Omega.{arith}
-use lib.Dec.{ltb}
 use lib.ListN.{length, get_or, take}
-use borrow.Author.Tests.{lt-ltb, le-ltb}
-use Rattle.folds.specs.Fold.{pick, list_to, Filled, over}
+use Rattle.folds.specs.Fold.{list_to, Filled, over}
 use Rattle.folds.proofs.Lists.{get_d_list_to, length-list_to}
 use Rattle.graph.specs.Graph.{Arcs, via, arcs, joining, cut, Inside}
 use Rattle.graph.specs.Links.{Joins, Ended}
 use Rattle.topology.specs.Order.{order_of}
 use Rattle.topology.specs.Reach.{lowest_on_cycle}
 use Rattle.topology.proofs.Same.{Same, same_edges, order_same, lowest_same}
-use Rattle.validity.specs.declared.Cause.{Cause}
 use Rattle.validity.specs.declared.Cause.TheVariants.{PartCycle}
-use Rattle.validity.specs.declared.Verdict.{Verdict}
-use Rattle.validity.specs.declared.Verdict.TheVariants.{Passed, Refused}
-use Rattle.validity.proofs.Checks.{at_hit, at_pass}
-use Rattle.inspection.specs.declared.Inspected.TheVariants.{Cut, Failed}
-use Rattle.inspection.specs.declared.Inspected.{Inspected}
+use Rattle.validity.specs.Check.{refuse_at}
+use Rattle.validity.specs.declared.Refusal.{Refusal}
 use Rattle.inspection.specs.Table.{cycles_from}
+use Rattle.inspection.specs.Inspect.{order_for}
 use Rattle.inspection.specs.Promises.{Judged}
+use Rattle.validity.specs.Cause.{Verdict, Passed}
 
 -- what a verdict comes to, from what it is
 module _ {v : Verdict} {A : Arcs} {widths order order' : List ℕ} {k : ℕ} where
-  pub judged_refused : {cause : Cause} {place : ℕ} → Refused cause place ≡ v → order' ≡ order → Judged v A widths k order order' (Failed cause place)
-  judged_refused e q = rw (← e, q) record { answer = refl; after = refl }
+  pub judged_refused : {e : Refusal} {r : Result ℕ Refusal} → r ≡ Err e → Err e ≡ v → order' ≡ order → Judged v A widths k order order' r
+  judged_refused h e q = rw (h, ← e, q) record { answer = refl; after = refl }
 
-  judged_passed : {c : ℕ} → Passed ≡ v → order' ≡ over (order_of A k) order → c ≡ cut A widths → Judged v A widths k order order' (Cut c)
+  judged_passed : {c : ℕ} → Passed ≡ v → order' ≡ over (order_of A k) order → c ≡ cut A widths → Judged v A widths k order order' (Ok c)
   judged_passed e q h = rw (← e, h) record { answer = refl; after = q }
 
-  pub judged_as : {w : Verdict} {r : Inspected} → w ≡ v → Judged w A widths k order order' r → Judged v A widths k order order' r
+  pub judged_as : {w : Verdict} {r : Result ℕ Refusal} → w ≡ v → Judged w A widths k order order' r → Judged v A widths k order order' r
   judged_as e J = rw (← e) J
 
 -- the lists name the parts at the ends of the edges
@@ -80,18 +77,16 @@ module _ {parts starts ends froms tos : List ℕ} (J : Joins parts starts ends) 
         let h : j < length starts = omega (arith, S.count) in
         let (a, b) = inside j h in (rw (S.from j h) a, rw (S.to j h) b)
 
-    lowest : {u : ℕ} → u ≡ lowest_on_cycle (joining froms tos) k → u ≡ lowest_on_cycle (arcs parts starts ends) k
-    lowest e = e ∙ lowest_same (joining froms tos) (arcs parts starts ends) joined_same k shown_inside inside
+    -- check 13, on the edges between the parts that the lists name
+    same_verdict : refuse_at PartCycle (lowest_on_cycle (joining froms tos) k) k Passed ≡ cycles_from starts ends k parts
+    unfolding cycles_from
+    same_verdict = ap (λ (u : ℕ). refuse_at PartCycle u k Passed) (lowest_same (joining froms tos) (arcs parts starts ends) joined_same k shown_inside inside)
 
-    -- check 13, from the lowest on a cycle
-    module _ (u : ℕ) (order : List ℕ) (e : u ≡ lowest_on_cycle (joining froms tos) k) {order' : List ℕ}
-        (q : order' ≡ pick (ltb u k) order (over (order_of (joining froms tos) k) order)) where
-      pub cycle_judged : {widths : List ℕ} → u < k → Judged (cycles_from starts ends k parts) (arcs parts starts ends) widths k order order' (Failed PartCycle u)
-      unfolding cycles_from
-      cycle_judged l = judged_refused (at_hit _ _ _ _ _ (lowest e) l) (rw (lt-ltb u k l) at q)
+    module _ {v : Verdict} {widths order order' : List ℕ} (e : v ≡ refuse_at PartCycle (lowest_on_cycle (joining froms tos) k) k Passed)
+        (q : order' ≡ order_for v (joining froms tos) k order) where
+      pub cycle_judged : {d : Refusal} {r : Result ℕ Refusal} → v ≡ Err d → r ≡ Err d → Judged (cycles_from starts ends k parts) (arcs parts starts ends) widths k order order' r
+      cycle_judged h s = judged_refused s (sym h ∙ e ∙ same_verdict) (rw h at q)
 
-      pub order_judged : {c : ℕ} (widths : List ℕ) → k ≤ u → c ≡ cut (arcs parts starts ends) widths → Judged (cycles_from starts ends k parts) (arcs parts starts ends) widths k order order' (Cut c)
-      unfolding cycles_from
-      order_judged widths l h =
-          judged_passed (at_pass _ _ _ _ _ _ (lowest e) l refl)
-          ((rw (le-ltb u k l) at q) ∙ ap (λ (s : List ℕ). over s order) (order_same (joining froms tos) (arcs parts starts ends) joined_same k)) h
+      pub order_judged : {c : ℕ} → v ≡ Passed → c ≡ cut (arcs parts starts ends) widths → Judged (cycles_from starts ends k parts) (arcs parts starts ends) widths k order order' (Ok c)
+      order_judged h =
+          judged_passed (sym h ∙ e ∙ same_verdict) ((rw h at q) ∙ ap (λ (s : List ℕ). over s order) (order_same (joining froms tos) (arcs parts starts ends) joined_same k))

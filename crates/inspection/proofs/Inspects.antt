@@ -4,6 +4,8 @@ use mathlib.Core.Path.{◌≡◌, refl, sym, ◌∙◌}
 use mathlib.Core.Bool.{Bool, true, ◌&&◌}
 use mathlib.Core.Logic.{◌↔◌}
 use mathlib.Core.List.{List, [], ◌∷◌}
+use Rattle.std.specs.Prelude.{Result}
+use Rattle.validity.specs.declared.Refusal.{Refusal}
 use native.Mathlib.Omega.{arith}
 use lib.Dec.{leb}
 use lib.ListN.{length}
@@ -11,17 +13,14 @@ use lib.Seq.{length-take-le}
 use borrow.Author.Tests.{leb-true, le-leb}
 use Rattle.folds.proofs.Cases.{both}
 use Rattle.graph.specs.Graph.{Graph, vertices, seen, cut_of, Proper}
-use Rattle.validity.specs.Cause.{refusal, told}
+use Rattle.validity.specs.Cause.{refusal, told, Verdict, Passed, Refused}
 use Rattle.validity.specs.Check.{checked, Valid}
 use Rattle.validity.specs.Sound.{Sound}
 use Rattle.validity.specs.declared.Cause.{Cause}
-use Rattle.validity.specs.declared.Verdict.{Verdict}
-use Rattle.validity.specs.declared.Verdict.TheVariants.{Passed, Refused}
 use Rattle.validity.proofs.Passed.{number_passed, passed_valid, valid_sound}
 use Rattle.inspection.specs.Table.{table_of, Fine}
 use Rattle.inspection.specs.Inspect.{answer_of, parts_of, verdict_of, inspect_of, order_after}
 use Rattle.inspection.specs.Promises.{TableReady, Judged}
-use Rattle.inspection.specs.declared.Inspected.{Inspected}
 use Rattle.inspection.proofs.Tables.{passed_fine, fine_passed}
 
 -- what the calls below answered: v of checks 1 to 8
@@ -32,7 +31,7 @@ module _ (G : Graph) (k bound : ℕ) (table order : List ℕ) (room : Bool) (v :
   unfolding inspect_of order_after verdict_of
   refused_first e = rw (← er, ← ev, e) (refl, refl)
 
-  pub judged_all : {r : Inspected} {order' : List ℕ} → v ≡ Passed → Judged (table_of G k bound (parts_of G table)) (seen G (parts_of G table)) G.widths k order order' r
+  pub judged_all : {r : Result ℕ Refusal} {order' : List ℕ} → v ≡ Passed → Judged (table_of G k bound (parts_of G table)) (seen G (parts_of G table)) G.widths k order order' r
       → (answer_of r ≡ inspect_of G k bound table order) × (order' ≡ order_after G k bound table order)
   unfolding inspect_of order_after verdict_of
   judged_all e J = rw (← er, ← ev, e) (J.answer, J.after)

@@ -1,16 +1,20 @@
 -- Checks 10 to 13, from the sums that code holds, and what they say.
-use Prim.Native.Nat.{ℕ, ◌≤◌, ◌<◌}
-use mathlib.Core.Path.{◌≡◌, sym, ap, ◌∙◌}
-use mathlib.Core.Bool.{true, not}
+use Prim.Native.Nat.{ℕ, ◌<◌}
+use mathlib.Core.Path.{◌≡◌, refl, sym, ap, ◌∙◌}
+use mathlib.Core.Bool.{Bool, true, false, not}
 use mathlib.Core.List.{List}
 use native.Mathlib.Omega.{arith}
 use lib.Dec.{eqb, ltb}
-use lib.ListN.{length, get_or}
+use lib.ListN.{length, get_or, take}
+use Rattle.std.specs.Prelude.{Option, Some, None, cond}
+use Rattle.std.specs.List.{position, position_or_len}
+use Rattle.std.proofs.lemmas.List.{get_or-take, length-take-le}
+use Rattle.std.proofs.lemmas.List.Sums.{position_or_len_is}
 use borrow.Author.Tests.{eqb-true, eq-eqb, ltb-false, leb-false, lt-leb, le-ltb}
-use Rattle.folds.specs.Fold.{when, sum_to, any_to, first_to}
+use Rattle.folds.specs.Fold.{pick, when, sum_to, if_below, any_to, first_to}
 use Rattle.folds.proofs.Cases.{by, not_no, not_yes, same_test}
 use Rattle.folds.proofs.Sums.{sum_to_none, sum_to_member}
-use Rattle.folds.proofs.Searches.{first_to_le, first_to_none, first_to_all, first_to_ext, any_i, any_e, any_none}
+use Rattle.folds.proofs.Searches.{first_to_le, first_to_hit, first_to_below, first_to_none, first_to_all, first_to_ext, any_i, any_e, any_none}
 use Rattle.graph.specs.Graph.{Graph, vertices, seen, Inside, cost_in, part_cost, Proper}
 use Rattle.graph.specs.Links.{Joins}
 use Rattle.graph.specs.Table.{part_size}
@@ -22,11 +26,20 @@ use Rattle.topology.specs.Reach.{lowest_on_cycle}
 use Rattle.topology.proofs.Reaches.{none_acyclic, lowest_none}
 use Rattle.validity.specs.Check.{refuse_at}
 use Rattle.validity.specs.declared.Cause.{Cause}
-use Rattle.validity.specs.declared.Verdict.{Verdict}
-use Rattle.validity.specs.declared.Verdict.TheVariants.{Passed}
 use Rattle.validity.proofs.Passed.{passed_at}
 use Rattle.inspection.specs.Table.{bad_entry, is_empty, is_over, cycles_from, table_of, Fine}
 use Rattle.inspection.specs.Promises.{TableReady}
+use Rattle.validity.specs.Cause.{Verdict, Passed}
+
+as_pick : (t : Bool) (i : ℕ) → cond t (Some i) None ≡ pick t (Some i) None
+as_pick true i = refl
+as_pick false i = refl
+
+-- the first of a list that passes a test
+pub position_first : (p : ℕ → Bool) (xs : List ℕ) {r : Option ℕ} → r ≡ position p xs → r ≡ if_below (length xs) (first_to (length xs) (λ j. p (get_or xs j 0)))
+position_first p xs h =
+    let n = first_to (length xs) (λ j. p (get_or xs j 0)) in
+    let e : position_or_len p xs ≡ n = position_or_len_is p xs n 0 (first_to_le (length xs) _) (λ j l. first_to_below (length xs) (λ i. p (get_or xs i 0)) j l) (λ l. first_to_hit (length xs) (λ i. p (get_or xs i 0)) l) in h ∙ rw e (as_pick (ltb n (length xs)) n)
 
 -- a part is empty exactly if its cost is 0, where each vertex costs something
 module _ (costs parts : List ℕ) (costly : (v : ℕ) → v < length costs → 0 < get_or costs v 0) where
@@ -49,13 +62,13 @@ module _ (costs parts : List ℕ) (costly : (v : ℕ) → v < length costs → 0
 
 module _ {G : Graph} {k : ℕ} {parts order : List ℕ} (T : TableReady G k parts order) where
   -- the search of check 10, over the entries of the table
-  pub entry_at : {v : ℕ} → v ≡ first_to (length parts) (bad_entry k parts) → v ≡ first_to (vertices G) (bad_entry k parts)
-  entry_at e = e ∙ ap (λ (n : ℕ). first_to n (bad_entry k parts)) T.whole
+  pub entry_at : {v : Option ℕ} → v ≡ if_below (length parts) (first_to (length parts) (bad_entry k parts)) → v ≡ if_below (vertices G) (first_to (vertices G) (bad_entry k parts))
+  entry_at e = e ∙ ap (λ (n : ℕ). if_below n (first_to n (bad_entry k parts))) T.whole
 
-  pub entries_left : {v : ℕ} → v ≡ first_to (length parts) (bad_entry k parts) → length parts ≤ v → (w : ℕ) → w < vertices G → get_or parts w 0 < k
+  pub entries_left : ltb (first_to (vertices G) (bad_entry k parts)) (vertices G) ≡ false → (w : ℕ) → w < vertices G → get_or parts w 0 < k
   unfolding bad_entry
-  entries_left e l w h =
-      leb-false k (get_or parts w 0) (first_to_none (length parts) (bad_entry k parts) (omega (arith, first_to_le (length parts) (bad_entry k parts))) w (omega (arith, T.whole)))
+  entries_left e w h =
+      leb-false k (get_or parts w 0) (first_to_none (vertices G) (bad_entry k parts) (omega (arith, ltb-false _ _ e, first_to_le (vertices G) (bad_entry k parts))) w h)
 
   -- what check 10 leaves known
   module _ (named : (v : ℕ) → v < vertices G → get_or parts v 0 < k) where
@@ -68,17 +81,22 @@ module _ {G : Graph} {k : ℕ} {parts order : List ℕ} (T : TableReady G k part
     pub table_inside : Inside (seen G parts) k
     table_inside j h = (named _ (T.proper.formed.start_in j h), named _ (T.proper.formed.end_in j h))
 
-  -- checks 11 and 12, on the sums that code holds
+  -- checks 11 and 12, on the sums that code holds, of the first k parts
   module _ {sums : List ℕ} (S : Totals parts G.costs 16 (vertices G) sums) where
-    sum_at : (u : ℕ) → u < k → get_or sums u 0 ≡ part_cost G.costs parts u
-    sum_at u l = totals_cost parts G.costs S u (omega (arith, T.few))
+    sum_at : (u : ℕ) → u < k → get_or (take k sums) u 0 ≡ part_cost G.costs parts u
+    sum_at u l = get_or-take k sums u 0 l ∙ totals_cost parts G.costs S u (omega (arith, T.few))
 
-    pub empty_at : {e : ℕ} → e ≡ first_to k (λ u. eqb (get_or sums u 0) 0) → e ≡ first_to k (is_empty (vertices G) parts)
-    empty_at q = q ∙ first_to_ext k _ _ (λ u l. rw (sum_at u l) (sym (empty_cost G.costs parts T.proper.costly u)))
+    pub few_sums : length (take k sums) ≡ k
+    few_sums = length-take-le k sums (omega (arith, T.few, S.long))
 
-    pub over_at : (bound : ℕ) {o : ℕ} → o ≡ first_to k (λ u. ltb bound (get_or sums u 0)) → o ≡ first_to k (is_over G bound parts)
+    pub empty_at : {e : Option ℕ} → e ≡ if_below (length (take k sums)) (first_to (length (take k sums)) (λ u. eqb (get_or (take k sums) u 0) 0))
+        → e ≡ if_below k (first_to k (is_empty (vertices G) parts))
+    empty_at q = q ∙ rw few_sums (ap (if_below k) (first_to_ext k _ _ (λ u l. rw (sum_at u l) (sym (empty_cost G.costs parts T.proper.costly u)))))
+
+    pub over_at : (bound : ℕ) {o : Option ℕ} → o ≡ if_below (length (take k sums)) (first_to (length (take k sums)) (λ u. ltb bound (get_or (take k sums) u 0)))
+        → o ≡ if_below k (first_to k (is_over G bound parts))
     unfolding is_over
-    over_at bound q = q ∙ first_to_ext k _ _ (λ u l. rw (sum_at u l, size_cost G parts u))
+    over_at bound q = q ∙ rw few_sums (ap (if_below k) (first_to_ext k _ _ (λ u l. rw (sum_at u l, size_cost G parts u))))
 
 -- THE CLAIM below: the table passes 10 to 13 exactly if it is fine
 module _ (G : Graph) (k bound : ℕ) (parts : List ℕ) (proper : Proper G) where

@@ -1,20 +1,16 @@
 -- Inspection of a table, whichever program made it.
-use Rattle.std.specs.Prelude.{ℕ, ◌&&◌, List, [], ◌∷◌, leb, length, take}
+use Rattle.std.specs.Prelude.{ℕ, ◌&&◌, Result, List, [], ◌∷◌, leb, length, take}
 use Rattle.folds.specs.Fold.{over}
-use Rattle.graph.specs.Graph.{Graph, vertices, Arcs, seen, cut, cut_of}
+use Rattle.graph.specs.Graph.{Graph, vertices, Arcs, seen, cut_of}
 use Rattle.topology.specs.Order.{order_of}
-use Rattle.validity.specs.Cause.{Answer, refusal, answered, if_passed, told}
+use Rattle.validity.specs.Cause.{Answer, Verdict, Refused, refusal, answered, if_answered, if_passed, told}
 use Rattle.validity.specs.Check.{most_vertices, checked}
-use Rattle.validity.specs.declared.Verdict.{Verdict}
-use Rattle.validity.specs.declared.Verdict.TheVariants.{Refused}
+use Rattle.validity.specs.declared.Refusal.{Refusal}
 use Rattle.inspection.specs.Table.{table_of}
-use Rattle.inspection.specs.declared.Inspected.{Inspected}
-use Rattle.inspection.specs.declared.Inspected.TheVariants.{Cut, Failed}
 
 -- document 01's number and values of each answer: the cut, or the refusal and its place
-abbrev pub answer_of : Inspected → Answer
-answer_of (Cut cut) = answered (cut ∷ [])
-answer_of (Failed cause place) = refusal cause place
+abbrev pub answer_of : Result ℕ Refusal → Answer
+answer_of r = if_answered r (λ cut. answered (cut ∷ [])) refusal
 
 -- the entries of the table that inspection looks at
 unfoldable pub parts_of : Graph → List ℕ → List ℕ

@@ -7,8 +7,7 @@ use Rattle.graph.specs.Table.{part_size}
 use Rattle.topology.specs.Reach.{lowest_on_cycle}
 use Rattle.validity.specs.Check.{refuse_at}
 use Rattle.validity.specs.declared.Cause.TheVariants.{Entry, Empty, Over, PartCycle}
-use Rattle.validity.specs.declared.Verdict.{Verdict}
-use Rattle.validity.specs.declared.Verdict.TheVariants.{Passed}
+use Rattle.validity.specs.Cause.{Verdict, Passed}
 
 -- 10: entry of k or more
 unfoldable pub bad_entry : ℕ → List ℕ → ℕ → Bool

@@ -3,6 +3,7 @@ use Prim.Native.Nat.{ℕ, zero, suc, ◌≤◌, ◌<◌}
 use mathlib.Core.Path.{◌≡◌, refl, sym, ◌∙◌}
 use mathlib.Core.Bool.{Bool, true, false, not}
 use mathlib.Core.Logic.{◌↔◌}
+use Rattle.std.specs.Prelude.{Ok, Err}
 use native.Mathlib.Omega.{arith}
 use lib.Dec.{eqb, ltb, leb}
 use lib.ListN.{length, get_or}
@@ -17,11 +18,9 @@ use Rattle.topology.specs.Reach.{lowest_on_cycle}
 use Rattle.topology.proofs.Reaches.{none_acyclic, lowest_none}
 use Rattle.validity.specs.Sound.{Sound}
 use Rattle.validity.specs.Check.{most_vertices, refuse_if, refuse_at, bad_vertices, bad_parts, bad_edges, bad_cost, bad_ends, repeats, cycles_from, repeats_from, lists_from, checked, Valid}
-use Rattle.validity.specs.Cause.{number_of, Answer, refusal, if_passed}
+use Rattle.validity.specs.Cause.{number_of, Answer, refusal, if_passed, Verdict, Passed}
 use Rattle.validity.specs.declared.Cause.{Cause}
 use Rattle.validity.specs.declared.Cause.TheVariants.{Vertices, Parts, Edges, Room, Cost, Ends, Repeat, Cycle, Uncut, Entry, Empty, Over, PartCycle, Length, Line, Lines}
-use Rattle.validity.specs.declared.Verdict.{Verdict}
-use Rattle.validity.specs.declared.Verdict.TheVariants.{Passed, Refused}
 use Rattle.validity.proofs.Checks.{neither}
 
 positive : (x : ℕ) → (x ≡ 0 → ⊥) → 0 < x
@@ -216,5 +215,5 @@ numbered Lines e = omega arith
 
 -- an answer of number 0 comes of a verdict that passed
 pub number_passed : (v : Verdict) (answer : Answer) → (if_passed v answer refusal).number ≡ 0 → v ≡ Passed
-number_passed Passed answer e = refl
-number_passed (Refused cause place) answer e = absurd (numbered cause e)
+number_passed (Ok tt) answer e = refl
+number_passed (Err r) answer e = absurd (numbered r.cause e)

@@ -3,6 +3,7 @@ use Prim.Native.Nat.{ℕ, ◌+◌, ◌*◌, ◌/◌, ◌%◌, ◌^◌, ◌≤◌
 use mathlib.Core.Path.{◌≡◌, refl, sym, ap, ◌∙◌}
 use mathlib.Core.Bool.{Bool, true, false, ◌&&◌, or-false}
 use mathlib.Core.List.{List}
+use Rattle.std.specs.Prelude.{Option, Some, None}
 use native.Mathlib.Nat.{div-add-mod', div-lt_iff_lt-mul, mod-lt, suc-mul, mul-le-mul_right}
 use native.Mathlib.Omega.{arith}
 use lib.Arith.{digits_div, digits_mod}
@@ -10,8 +11,8 @@ use lib.Bits.{bit_or}
 use lib.Dec.{eqb, ltb}
 use lib.ListN.{length, get_or, set}
 use lib.Seq.{get_or-set_same, get_or-set_other}
-use borrow.Author.Tests.{eqb-true, eq-eqb, ne_eqb, ltb-true, ltb-false, le-ltb}
-use Rattle.folds.specs.Fold.{first_to, any_to, Read}
+use borrow.Author.Tests.{eqb-true, eq-eqb, ne_eqb, ltb-true, ltb-false}
+use Rattle.folds.specs.Fold.{first_to, any_to}
 use Rattle.folds.proofs.Cases.{by, no_bool, either, eq_or_ne, both, both_i, and_false, same_test}
 use Rattle.folds.proofs.Searches.{first_to_none, first_to_hit, any_i, any_ext, any_step, any_zero}
 use Rattle.graph.specs.Graph.{Graph, vertices, edges, identity, arcs}
@@ -24,10 +25,10 @@ use Rattle.validity.specs.Repeat.{first_repeat, tried, tried_of, Found}
 use Rattle.validity.specs.Drawn.{tried_by, checked_with}
 use Rattle.validity.specs.declared.Checked.{Checked}
 use Rattle.validity.specs.declared.Cause.{Cause}
-use Rattle.validity.specs.declared.Verdict.{Verdict}
-use Rattle.validity.specs.declared.Verdict.TheVariants.{Passed, Refused}
-use Rattle.validity.proofs.Checks.{lists_early}
+use Rattle.validity.specs.declared.Cause.TheVariants.{Repeat}
+use Rattle.validity.proofs.Checks.{lists_early, no_some, at_some, at_none}
 use Rattle.validity.specs.Words.{WordsRoom, word_of, is_bit, BitsSet, Trying}
+use Rattle.validity.specs.Cause.{Verdict, Passed, Refused}
 
 -- a search that found none so far goes on to an edge that it tries
 pub tries_next : (m j : ℕ) (p : ℕ → Bool) → first_to j p ≡ j → j < m → j < tried (first_to m p) m
@@ -57,17 +58,18 @@ tried_found n starts ends =
     (λ f. rw f (by (ltb (lowest_on_cycle (arcs (identity n) starts ends) n) n) (λ t. rw t refl) (λ g. rw g refl)))
 
 -- all checks, from 1 to 6: refused there no edge was tried, passed there the rest decides
-module _ (most : ℕ) (G : Graph) (k bound : ℕ) (room : Bool) {r : Verdict} (e : r ≡ lists_from most G k bound room Passed) where
-  pub lists_refused : {cause : Cause} {place : ℕ} → r ≡ Refused cause place → record { verdict = Refused cause place; tried = 0 } ≡ checked_with (checked most G k bound room) (edges G)
+module _ (most : ℕ) (G : Graph) (k bound : ℕ) (room : Bool) where
+  pub lists_refused : {cause : Cause} {place : ℕ} → lists_from most G k bound room Passed ≡ Refused cause place
+      → record { verdict = Refused cause place; tried = 0 } ≡ checked_with (checked most G k bound room) (edges G)
   unfolding checked
   lists_refused {cause} {place} h =
-      let (q, z) = (lists_early most G k bound room).refuses (sym e ∙ h) (repeats_from (vertices G) G.starts G.ends) (edges G) in rw q (ap (λ (x : ℕ). record { verdict = Refused cause place; tried = x }) (sym z))
+      let (q, z) = (lists_early most G k bound room).refuses h (repeats_from (vertices G) G.starts G.ends) (edges G) in rw q (ap (λ (x : ℕ). record { verdict = Refused cause place; tried = x }) (sym z))
 
-  pub lists_passed : {x : Checked} → r ≡ Passed → (x.verdict ≡ repeats_from (vertices G) G.starts G.ends) × (x.tried ≡ tried_of G.starts G.ends)
+  pub lists_passed : {x : Checked} → lists_from most G k bound room Passed ≡ Passed → (x.verdict ≡ repeats_from (vertices G) G.starts G.ends) × (x.tried ≡ tried_of G.starts G.ends)
       → x ≡ checked_with (checked most G k bound room) (edges G)
   unfolding checked
   lists_passed h (v, c) =
-      rw ((lists_early most G k bound room).passes (sym e ∙ h) (repeats_from (vertices G) G.starts G.ends), tried_found (vertices G) G.starts G.ends, ← v, ← c) refl
+      rw ((lists_early most G k bound room).passes h (repeats_from (vertices G) G.starts G.ends), tried_found (vertices G) G.starts G.ends, ← v, ← c) refl
 
 high_bits : {s x : ℕ} → x < s * 64 → x / 64 < s
 high_bits l = (div-lt_iff_lt-mul {k = 64} (omega arith)).1 l
@@ -137,16 +139,16 @@ module _ (starts ends : List ℕ) (stride : ℕ) where
           (λ t. eq-eqb _ _ (S.is w ∙ sym (word_or 64 (get_or ends j 0 % 64) _ _ low (was_set ∙ t) (λ _ _ _. refl)) ∙ rw (bit, S.is w)))
 
 -- what was read of edge j, and its word and bit
-module _ {starts ends : List ℕ} {j a b : ℕ} (stride : ℕ) (from : Read starts j 65536 a) (to : Read ends j 65536 b) where
+module _ (starts ends : List ℕ) (j : ℕ) {a b : ℕ} (stride : ℕ) (from : a ≡ get_or starts j 0) (to : b ≡ get_or ends j 0) where
   pub word_is : a * stride + b / 64 ≡ word_of starts ends stride j
   unfolding word_of
-  word_is = rw (from.is, to.is)
+  word_is = rw (from, to)
 
   pub word_in : {words : ℕ} → WordsRoom starts ends stride words → j < tried_of starts ends → a * stride + b / 64 < words
-  word_in R l = rw (from.is, to.is) (omega (arith, R.start_in j l, high_bits (R.end_in j l)))
+  word_in R l = rw (from, to) (omega (arith, R.start_in j l, high_bits (R.end_in j l)))
 
-pub bit_is : {ends : List ℕ} {j b x : ℕ} → Read ends j 65536 b → x ≡ 2 ^ (b % 64) → x ≡ 2 ^ (get_or ends j 0 % 64)
-bit_is to e = rw to.is at e
+pub bit_is : (ends : List ℕ) (j : ℕ) {b x : ℕ} → b ≡ get_or ends j 0 → x ≡ 2 ^ (b % 64) → x ≡ 2 ^ (get_or ends j 0 % 64)
+bit_is ends j to e = rw to at e
 
 -- as many words for each vertex as have a bit for each
 pub fits_roomy : {n : ℕ} {starts ends : List ℕ} (stride : ℕ) → Fits n starts ends → n ≤ stride * 64 → WordsRoom starts ends stride (stride * 64 * stride)
@@ -158,7 +160,16 @@ fits_roomy {starts = starts} {ends = ends} stride F l =
       end_in = λ j h. omega (arith, F.end_in j (tried_there starts ends h));
     }
 
--- where none repeats an earlier one, all were tried
-pub tried_all : {starts ends : List ℕ} {place t : ℕ} → Found starts ends place t → length starts ≤ place → t ≡ length starts
-unfolding tried
-tried_all F l = F.count_is ∙ rw (← F.place_is, le-ltb _ _ l) refl
+-- what the search answered: where it found none, all edges were tried, and check 8 decides
+module _ {starts ends : List ℕ} {place : Option ℕ} {t : ℕ} (F : Found starts ends place t) where
+  pub tried_all : place ≡ None → t ≡ length starts
+  unfolding tried
+  tried_all e = F.count_is ∙ by (ltb (first_repeat starts ends) (length starts)) (λ y. absurd (no_some (rw (e, y) at F.place_is))) (λ n. rw n refl)
+
+  pub repeat_refused : {j : ℕ} {x : Checked} (n : ℕ) → place ≡ Some j → (x.verdict ≡ Refused Repeat j) × (x.tried ≡ t) → (x.verdict ≡ repeats_from n starts ends) × (x.tried ≡ tried_of starts ends)
+  unfolding repeats_from
+  repeat_refused n e (v, c) = (v ∙ at_some _ _ _ _ (sym e ∙ F.place_is), c ∙ F.count_is)
+
+  pub repeat_passed : {r : Verdict} (n : ℕ) → place ≡ None → r ≡ cycles_from n starts ends → (r ≡ repeats_from n starts ends) × (t ≡ tried_of starts ends)
+  unfolding repeats_from
+  repeat_passed n e h = (at_none _ _ _ (sym e ∙ F.place_is) h, F.count_is)

@@ -1,9 +1,8 @@
 -- Document 01's table of refusals: a number for each cause.
-use Rattle.std.specs.Prelude.{ℕ, List, [], ◌∷◌}
+use Rattle.std.specs.Prelude.{ℕ, Result, Ok, Err, List, [], ◌∷◌}
 use Rattle.validity.specs.declared.Cause.{Cause}
 use Rattle.validity.specs.declared.Cause.TheVariants.{Vertices, Parts, Edges, Room, Cost, Ends, Repeat, Cycle, Uncut, Entry, Empty, Over, PartCycle, Length, Line, Lines}
-use Rattle.validity.specs.declared.Verdict.{Verdict}
-use Rattle.validity.specs.declared.Verdict.TheVariants.{Passed, Refused}
+use Rattle.validity.specs.declared.Refusal.{Refusal}
 
 abbrev pub number_of : Cause → ℕ
 number_of Vertices = 1
@@ -34,10 +33,24 @@ refusal cause place = record { number = number_of cause; values = place ∷ [] }
 abbrev pub answered : List ℕ → Answer
 answered values = record { number = 0; values = values }
 
+-- what comes of a call that says a value or refuses: `next` of the value, or what the refusal leaves
+abbrev pub if_answered : {A B : Type 0} → Result A Refusal → (A → B) → (Cause → ℕ → B) → B
+if_answered (Ok value) next left = next value
+if_answered (Err r) next left = left r.cause r.place
+
+-- a verdict, which says no more than that the checks passed
+abbrev pub Verdict : Type 0
+Verdict = Result (Unit {0}) Refusal
+
+abbrev pub Passed : Verdict
+Passed = Ok tt
+
+abbrev pub Refused : Cause → ℕ → Verdict
+Refused cause place = Err (record { cause = cause; place = place })
+
 -- what comes of a verdict: `next` where it passed, else what the refusal leaves
 abbrev pub if_passed : {A : Type 0} → Verdict → A → (Cause → ℕ → A) → A
-if_passed Passed next left = next
-if_passed (Refused cause place) next left = left cause place
+if_passed v next left = if_answered v (λ _. next) left
 
 abbrev pub told : Verdict → List ℕ → Answer
 told v values = if_passed v (answered values) refusal

@@ -5,8 +5,7 @@ use Rattle.graph.specs.Graph.{Graph, vertices, edges, identity, arcs}
 use Rattle.topology.specs.Reach.{lowest_on_cycle}
 use Rattle.validity.specs.declared.Cause.{Cause}
 use Rattle.validity.specs.declared.Cause.TheVariants.{Vertices, Parts, Edges, Room, Cost, Ends, Repeat, Cycle}
-use Rattle.validity.specs.declared.Verdict.{Verdict}
-use Rattle.validity.specs.declared.Verdict.TheVariants.{Passed, Refused}
+use Rattle.validity.specs.Cause.{Verdict, Passed, Refused}
 
 -- a fault of the whole graph, at place 0, or what is found next
 abbrev pub refuse_if : Bool → Cause → Verdict → Verdict

@@ -1,17 +1,15 @@
 -- Document 02, b: the check of a kit that is being drawn.
-use Rattle.std.specs.Prelude.{ℕ, ◌+◌, true, [], ◌∷◌, eqb}
+use Rattle.std.specs.Prelude.{ℕ, ◌+◌, true, Ok, Err, [], ◌∷◌, eqb}
 use Rattle.folds.specs.Fold.{pick}
 use Rattle.graph.specs.Graph.{Graph, edges}
-use Rattle.validity.specs.Cause.{Answer, number_of, told, if_passed}
+use Rattle.validity.specs.Cause.{Answer, number_of, told, if_passed, Verdict}
 use Rattle.validity.specs.Check.{most_vertices, checked}
 use Rattle.validity.specs.declared.Checked.{Checked}
-use Rattle.validity.specs.declared.Verdict.{Verdict}
-use Rattle.validity.specs.declared.Verdict.TheVariants.{Passed, Refused}
 
 -- how many of m wires the search for a repeated one tried: all with 0 and with 8, the place and one more with 7, none where 1 to 6 refused
 unfoldable pub tried_by : Verdict → ℕ → ℕ
-tried_by Passed m = m
-tried_by (Refused cause place) m = pick (eqb (number_of cause) 7) (place + 1) (pick (eqb (number_of cause) 8) m 0)
+tried_by (Ok passed) m = m
+tried_by (Err r) m = pick (eqb (number_of r.cause) 7) (r.place + 1) (pick (eqb (number_of r.cause) 8) m 0)
 
 -- a verdict with that count
 abbrev pub checked_with : Verdict → ℕ → Checked

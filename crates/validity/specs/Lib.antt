@@ -1,4 +1,5 @@
 pub mod Cause
+pub mod Faults
 pub mod Check
 pub mod Repeat
 pub mod Words

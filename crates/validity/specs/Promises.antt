@@ -5,8 +5,7 @@ use Rattle.graph.specs.Graph.{identity, arcs, joining}
 use Rattle.graph.specs.Links.{Linked, leave}
 use Rattle.topology.specs.Order.{order_of}
 use Rattle.topology.specs.Level.{levels_of}
-use Rattle.validity.specs.declared.Verdict.{Verdict}
-use Rattle.validity.specs.declared.Verdict.TheVariants.{Passed}
+use Rattle.validity.specs.Cause.{Verdict, Passed}
 
 -- at most 512 vertices, and each of at most 1024 edges has its two ends among them
 pub record Fits (n : ℕ) (starts ends : List ℕ) : Type 0 where

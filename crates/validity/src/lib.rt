@@ -1,226 +1,194 @@
 // The causes of refusal and checks 1 to 8 of document 01.
 #![tactic(auto)]
 
-ghost use Rattle.std.specs.Prelude.{◌≡◌, ℕ, ◌<◌, ◌≤◌, length, get_or, set, true, ◌||◌, eqb, ltb, leb};
-ghost use Rattle.folds.specs.Fold.{when, count_to, first_to};
-ghost use Rattle.graph.specs.Graph.{graph_of};
+ghost use Rattle.std.specs.Prelude.{◌≡◌, ℕ, Bool, Err, MatchResult, IfOk, ◌<◌, ◌≤◌, length, get_or, set, true, ◌||◌, eqb, ltb, leb};
+ghost use Rattle.folds.specs.Fold.{when, count_to, first_to, if_below};
+ghost use Rattle.graph.specs.Lent.{graph_in};
 ghost use Rattle.cycle_test.specs.Thin.{Marked};
-ghost use Rattle.validity.specs.Cause.{number_of};
+ghost use Rattle.validity.specs.Cause.{number_of, Passed, Refused};
+ghost use Rattle.validity.specs.Faults.{Tells};
 ghost use Rattle.validity.specs.Repeat.{Found, tried_of};
 ghost use Rattle.validity.specs.Words.{WordsRoom, Trying, Tried};
 ghost use Rattle.validity.specs.Drawn.{checked_with, check_of};
-ghost use Rattle.validity.specs.declared.Cause.TheVariants.{Repeat, Cycle};
-ghost use Rattle.validity.specs.declared.Verdict.TheVariants.{Passed, Refused};
+ghost use Rattle.validity.specs.declared.Cause.TheVariants.{Repeat};
 ghost use Rattle.validity.specs.Promises.{Fits, OrderLeft};
-ghost use Rattle.validity.specs.Check.{refuse_at, bad_vertices, bad_parts, bad_edges, bad_cost, bad_ends, repeats, repeats_from, lists_from, checked};
+ghost use Rattle.validity.specs.Check.{refuse_if, refuse_at, bad_vertices, bad_parts, bad_edges, bad_cost, bad_ends, repeats, repeats_from, lists_from, checked};
 
-// In the order of document 01's numbers.
+use graph::{EdgeLists, LinkTable, Lists, Problem};
+
+// By document 01's numbers.
 #[derive(Clone, Copy)]
 pub enum Cause {
-    Vertices,
-    Parts,
-    Edges,
-    Room,
-    Cost,
-    Ends,
-    Repeat,
-    Cycle,
-    Uncut,
-    Entry,
-    Empty,
-    Over,
-    PartCycle,
-    Length,
-    Line,
-    Lines,
+    Vertices = 1,
+    Parts = 2,
+    Edges = 3,
+    Room = 4,
+    Cost = 5,
+    Ends = 6,
+    Repeat = 7,
+    Cycle = 8,
+    Uncut = 9,
+    Entry = 10,
+    Empty = 11,
+    Over = 12,
+    PartCycle = 13,
+    Length = 14,
+    Line = 15,
+    Lines = 16,
 }
 
+// Why a call refuses, and the place that document 01's table names.
 #[derive(Clone, Copy)]
-pub enum Verdict {
-    Passed,
-    Refused(Cause, usize),
+pub struct Refusal {
+    pub cause: Cause,
+    pub place: usize,
 }
 
-// A verdict, and how many edges the search for a repeated one tried.
+// What checks 1 to 8 say, and how many edges the search for a repeated one tried.
 #[derive(Clone, Copy)]
 pub struct Checked {
-    pub verdict: Verdict,
+    pub verdict: Result<(), Refusal>,
     pub tried: usize,
 }
 
-// Document 01's number of a cause.
-pub fn number(c: Cause) -> u32
-    ensures { result ≡ number_of c }
-{
-    match c {
-        Cause::Vertices => 1,
-        Cause::Parts => 2,
-        Cause::Edges => 3,
-        Cause::Room => 4,
-        Cause::Cost => 5,
-        Cause::Ends => 6,
-        Cause::Repeat => 7,
-        Cause::Cycle => 8,
-        Cause::Uncut => 9,
-        Cause::Entry => 10,
-        Cause::Empty => 11,
-        Cause::Over => 12,
-        Cause::PartCycle => 13,
-        Cause::Length => 14,
-        Cause::Line => 15,
-        Cause::Lines => 16,
+// Where a repeated edge is, if there is one, and how many edges the search tried.
+#[derive(Clone, Copy)]
+struct Repeated {
+    place: Option<usize>,
+    tried: usize,
+}
+
+// The edges of lists that passed checks 1 to 6, between n vertices.
+#[derive(Clone, Copy)]
+struct Fitted<'a> {
+    n: usize,
+    edges: EdgeLists<'a>,
+    ghost fits: { Fits n edges.starts.now edges.ends.now },
+}
+
+impl Cause {
+    // Document 01's number of a cause.
+    pub fn number(self) -> u32
+        ensures { result ≡ number_of self }
+    {
+        self as u32
+    }
+
+    // A refusal for this cause.
+    pub fn at(self, place: usize) -> Refusal
+        ensures { result ≡ record { cause = self; place = place } }
+    {
+        Refusal { cause: self, place }
+    }
+
+    // Refuses the whole, at place 0, where it has the fault.
+    fn refuse_if(self, fault: bool) -> Result<(), Refusal>
+        ensures { result ≡ refuse_if fault self Passed }
+    {
+        if fault { Err(self.at(0)) } else { Ok(()) }
+    }
+
+    // Refuses the place of the first fault, where there is one.
+    pub fn refuse_at(self, place: Option<usize>) -> Result<(), Refusal>
+        ensures { (n i : ℕ) → place ≡ if_below n i → result ≡ refuse_at self i n Passed }
+    {
+        match place {
+            Some(place) => Err(self.at(place)),
+            None => Ok(()),
+        }
     }
 }
 
-// Where a repeated edge is, or how many edges there are, and how many the search tried.
-#[derive(Clone, Copy)]
-pub struct Repeated {
-    pub place: usize,
-    pub tried: usize,
+impl Repeated {
+    // A refusal by check 7.
+    fn refuse(self, place: usize) -> Checked
+        ensures { (result.verdict ≡ Refused Repeat place) × (result.tried ≡ self.tried) }
+    {
+        Checked {
+            verdict: Err(Cause::Repeat.at(place)),
+            tried: self.tried,
+        }
+    }
 }
 
+#[tactic(auto, unfolding(crate::specs::Check::bad_vertices))]
 fn bad_vertices(most: usize, n: usize) -> bool
     ensures { result ≡ bad_vertices most n }
 {
-    if n == 0 {
-        return true;
-    }
-    most < n
+    n == 0 || most < n
 }
 
+#[tactic(auto, unfolding(crate::specs::Check::bad_parts))]
 fn bad_parts(k: usize, n: usize) -> bool
     ensures { result ≡ bad_parts k n }
 {
-    if k == 0 {
-        return true;
-    }
-    if 16 < k {
-        return true;
-    }
-    n < k
+    k == 0 || 16 < k || n < k
 }
 
+#[tactic(auto, unfolding(crate::specs::Check::bad_edges))]
 fn bad_edges(starts: usize, ends: usize, widths: usize) -> bool
     ensures { result ≡ bad_edges starts ends widths }
 {
-    if ends != starts {
-        return true;
-    }
-    if widths != starts {
-        return true;
-    }
-    1024 < starts
+    ends != starts || widths != starts || 1024 < starts
 }
 
-// 1 where check 5 refuses a cost, else 0: a number, so that a loop can take many costs at once.
-fn cost_fault(cost: u16, bound: u32) -> u16
-    ensures { (result ≡ when (eqb cost 0 || ltb bound cost) 1) × (result ≤ 1) }
-{
-    if cost == 0 {
-        return 1;
-    }
-    if bound < cost as u32 {
-        return 1;
-    }
-    0
-}
-
-// How many vertices check 5 refuses.
-fn cost_faults(costs: &[u16], bound: u32) -> u16
-    requires { length costs.now ≤ 512 }
-    ensures { result ≡ count_to (length costs.now) (bad_cost costs.now bound) }
+// How many of the numbers below n have a fault: one after the other without a branch, so that the loop takes many at once.
+fn count_faults<F: Fn(usize) -> bool>(n: usize, fault: F) -> u16
+    requires few { n ≤ 1024 }
+    requires each { (j : ℕ) → j < n → F.pre fault j }
+    ensures { (p : ℕ → Bool) → Tells (F.post fault) n p → result ≡ count_to n p }
 {
     let mut sum: u16 = 0;
-    let mut v: usize = 0;
-    while v < costs.len() {
-        sum += cost_fault(costs[v], bound);
-        v += 1;
+    for j in 0..n {
+        sum += u16::from(fault(j));
     }
     sum
 }
 
-// The lowest vertex that check 5 refuses, or how many there are, one after the other.
-fn first_cost_fault(costs: &[u16], bound: u32) -> usize
-    ensures { result ≡ first_to (length costs.now) (bad_cost costs.now bound) }
+// The lowest number below n that has a fault: looked for only where there is one.
+fn first_fault<F: Fn(usize) -> bool>(n: usize, fault: F) -> Option<usize>
+    requires few { n ≤ 1024 }
+    requires each { (j : ℕ) → j < n → F.pre fault j }
+    ensures { (p : ℕ → Bool) → Tells (F.post fault) n p → result ≡ if_below n (first_to n p) }
 {
-    let mut v: usize = 0;
-    while v < costs.len() {
-        if cost_fault(costs[v], bound) == 1 {
-            return v;
-        }
-        v += 1;
+    if count_faults(n, &fault) == 0 {
+        return None;
     }
-    v
+    for j in 0..n {
+        if fault(j) {
+            return Some(j);
+        }
+    }
+    None
 }
 
-// The lowest vertex that check 5 refuses, or how many there are: looked for only where there is one.
-fn bad_cost(costs: &[u16], bound: u32) -> usize
+// The lowest vertex that check 5 refuses.
+fn bad_cost(costs: &[u16], bound: u32) -> Option<usize>
     requires { length costs.now ≤ 512 }
-    ensures { result ≡ first_to (length costs.now) (bad_cost costs.now bound) }
+    ensures { result ≡ if_below (length costs.now) (first_to (length costs.now) (bad_cost costs.now bound)) }
 {
-    if cost_faults(costs, bound) == 0 {
-        return costs.len();
-    }
-    first_cost_fault(costs, bound)
+    let fault = |v: usize| {
+        let cost = costs[v];
+        cost == 0 || bound < u32::from(cost)
+    };
+    first_fault(costs.len(), fault)
 }
 
-// 1 where check 6 refuses an edge from a to b of width w, else 0. All three are read before: a loop can then take many edges at once.
-fn fault(n: u16, a: u16, b: u16, w: u16) -> u16
-    ensures { (result ≡ when (leb n a || (leb n b || (eqb a b || eqb w 0))) 1) × (result ≤ 1) }
+// The lowest edge that check 6 refuses.
+fn bad_end(lists: Lists<'_>) -> Option<usize>
+    requires same { (length lists.ends.now ≡ length lists.starts.now) × (length lists.widths.now ≡ length lists.starts.now) }
+    requires few { (length lists.costs.now ≤ 512) × (length lists.starts.now ≤ 1024) }
+    ensures { result ≡ if_below (length lists.entry.starts.now) (first_to (length lists.entry.starts.now)
+        (bad_ends (length lists.entry.costs.now) lists.entry.starts.now lists.entry.ends.now lists.entry.widths.now)) }
 {
-    if n <= a {
-        return 1;
-    }
-    if n <= b {
-        return 1;
-    }
-    if a == b {
-        return 1;
-    }
-    if w == 0 {
-        return 1;
-    }
-    0
-}
-
-// How many edges check 6 refuses.
-fn faults(n: u16, starts: &[u16], ends: &[u16], widths: &[u16]) -> u16
-    requires { (length ends.now ≡ length starts.now) × (length widths.now ≡ length starts.now) × (length starts.now ≤ 1024) }
-    ensures { result ≡ count_to (length starts.now) (bad_ends n starts.now ends.now widths.now) }
-{
-    let mut sum: u16 = 0;
-    let mut j: usize = 0;
-    while j < starts.len() {
-        sum += fault(n, starts[j], ends[j], widths[j]);
-        j += 1;
-    }
-    sum
-}
-
-// The lowest edge that check 6 refuses, or how many there are, one after the other.
-fn first_fault(n: u16, starts: &[u16], ends: &[u16], widths: &[u16]) -> usize
-    requires { (length ends.now ≡ length starts.now) × (length widths.now ≡ length starts.now) }
-    ensures { result ≡ first_to (length starts.now) (bad_ends n starts.now ends.now widths.now) }
-{
-    let mut j: usize = 0;
-    while j < starts.len() {
-        if fault(n, starts[j], ends[j], widths[j]) == 1 {
-            return j;
-        }
-        j += 1;
-    }
-    j
-}
-
-// The lowest edge that check 6 refuses, or how many there are: looked for only where there is one.
-fn bad_end(n: usize, starts: &[u16], ends: &[u16], widths: &[u16]) -> usize
-    requires { (length ends.now ≡ length starts.now) × (length widths.now ≡ length starts.now) × (length starts.now ≤ 1024) × (n ≤ 512) }
-    ensures { result ≡ first_to (length starts.now) (bad_ends n starts.now ends.now widths.now) }
-{
-    if faults(n as u16, starts, ends, widths) == 0 {
-        return starts.len();
-    }
-    first_fault(n as u16, starts, ends, widths)
+    let n = lists.costs.len() as u16;
+    let fault = |j: usize| {
+        let a = lists.starts[j];
+        let b = lists.ends[j];
+        let w = lists.widths[j];
+        n <= a || n <= b || a == b || w == 0
+    };
+    first_fault(lists.starts.len(), fault)
 }
 
 // Tries edge j as a repeat of an earlier one: whether its bit is set already, bit ends[j] % 64 of word starts[j] * stride + ends[j] / 64.
@@ -229,8 +197,8 @@ fn try_edge(starts: &[u16], ends: &[u16], j: usize, stride: usize, seen: &mut [u
     ensures value { result ≡ repeats starts.now ends.now j }
     ensures tried { Tried starts.now ends.now stride j seen.old seen.new }
 {
-    let b = folds::at16(ends, j);
-    let w = folds::at16(starts, j) * stride + b / 64;
+    let b = usize::from(ends[j]);
+    let w = usize::from(starts[j]) * stride + b / 64;
     let old = seen[w];
     let new = old | pool::bit(b % 64);
     seen[w] = new;
@@ -238,245 +206,186 @@ fn try_edge(starts: &[u16], ends: &[u16], j: usize, stride: usize, seen: &mut [u
 }
 
 // Marks what edge j leaves, where that is wanted.
+// stays: a flag; with a closure that marks in its place, the search would say what a fold of its calls leaves, which is no plainer.
 fn note(wanted: bool, starts: &[u16], j: usize, left: &mut [u8; 512])
-    requires { (j < length starts.now) × (get_or starts.now j 0 < 512) × (length left.old ≡ 512) }
-    ensures left_len { length left.new ≡ 512 }
-    ensures left_after { wanted ≡ true → left.new ≡ set left.old (get_or starts.now j 0) 1 }
+    requires { (j < length starts.now) × (get_or starts.now j 0 < 512) }
+    ensures { wanted ≡ true → left.new ≡ set left.old (get_or starts.now j 0) 1 }
 {
     if wanted {
-        left[folds::at16(starts, j)] = 1;
+        left[usize::from(starts[j])] = 1;
     }
 }
 
 // Tries the edges from the lowest up, counts them and, where that is wanted, marks what they leave, to the first that repeats an earlier one. It asks nothing
 // of those past it.
-fn first_repeat(
+fn first_repeat<const N: usize>(
     starts: &[u16],
     ends: &[u16],
     stride: usize,
-    seen: &mut [u64],
     wanted: bool,
     left: &mut [u8; 512],
 ) -> Repeated
-    requires words_room { WordsRoom starts.now ends.now stride (length seen.old) }
-    requires by_index { (w : ℕ) → get_or seen.old w 0 ≡ 0 }
-    requires left_len { length left.old ≡ 512 }
+    requires words_room { WordsRoom starts.now ends.now stride N }
+    requires few { N ≤ 4096 }
     ensures found { Found starts.now ends.now result.place result.tried }
     ensures marked { wanted ≡ true → Marked starts.now result.tried left.new }
 {
-    let mut tried: usize = 0;
-    while tried < starts.len() {
-        let j = tried;
+    let mut seen = [0u64; N];
+    for j in 0..starts.len() {
         note(wanted, starts, j, left);
-        tried += 1;
-        if try_edge(starts, ends, j, stride, seen) {
+        if try_edge(starts, ends, j, stride, &mut seen) {
             return Repeated {
-                place: j,
-                tried: tried,
+                place: Some(j),
+                tried: j + 1,
             };
         }
     }
     Repeated {
-        place: tried,
-        tried: tried,
+        place: None,
+        tried: starts.len(),
     }
 }
 
 // Where the first repeated edge is, and how many were tried; what these leave is marked, where that is wanted. Fewer vertices, fewer words.
-fn find_repeat(
-    n: usize,
-    starts: &[u16],
-    ends: &[u16],
-    wanted: bool,
-    left: &mut [u8; 512],
-) -> Repeated
-    requires fits { Fits n starts.now ends.now }
-    requires left_len { length left.old ≡ 512 }
-    ensures found { Found starts.now ends.now result.place result.tried }
-    ensures marked { wanted ≡ true → Marked starts.now result.tried left.new }
+fn find_repeat(lists: Fitted<'_>, wanted: bool, left: &mut [u8; 512]) -> Repeated
+    ensures found { Found lists.entry.edges.starts.now lists.entry.edges.ends.now result.place result.tried }
+    ensures marked { wanted ≡ true → Marked lists.entry.edges.starts.now result.tried left.new }
 {
-    if n <= 64 {
-        let mut seen = [0u64; 64];
-        return first_repeat(starts, ends, 1, &mut seen, wanted, left);
+    let EdgeLists { starts, ends } = lists.edges;
+    if lists.n <= 64 {
+        return first_repeat::<64>(starts, ends, 1, wanted, left);
     }
-    if n <= 256 {
-        let mut seen = [0u64; 1024];
-        return first_repeat(starts, ends, 4, &mut seen, wanted, left);
+    if lists.n <= 256 {
+        return first_repeat::<1024>(starts, ends, 4, wanted, left);
     }
-    let mut seen = [0u64; 4096];
-    first_repeat(starts, ends, 8, &mut seen, wanted, left)
+    first_repeat::<4096>(starts, ends, 8, wanted, left)
 }
 
 // Checks 1 to 6: at most `most` vertices; `room` is the caller's verdict of check 4.
-fn check_lists(
-    most: usize,
-    costs: &[u16],
-    starts: &[u16],
-    ends: &[u16],
-    widths: &[u16],
-    k: usize,
-    bound: u32,
-    room: bool,
-) -> Verdict
+fn check_lists(most: usize, problem: Problem<'_>, room: bool) -> Result<(), Refusal>
     requires { most ≤ 512 }
-    ensures value { result ≡ lists_from most (graph_of costs.now starts.now ends.now widths.now) k bound room Passed }
-    ensures fits { result ≡ Passed → Fits (length costs.now) starts.now ends.now }
+    ensures value { result ≡ lists_from most (graph_in problem.entry.lists) problem.entry.k problem.entry.bound room Passed }
+    ensures fits { result ≡ Passed → Fits (length problem.entry.lists.costs.now) problem.entry.lists.starts.now problem.entry.lists.ends.now }
 {
-    if bad_vertices(most, costs.len()) {
-        return Verdict::Refused(Cause::Vertices, 0);
-    }
-    if bad_parts(k, costs.len()) {
-        return Verdict::Refused(Cause::Parts, 0);
-    }
-    if bad_edges(starts.len(), ends.len(), widths.len()) {
-        return Verdict::Refused(Cause::Edges, 0);
-    }
-    if !room {
-        return Verdict::Refused(Cause::Room, 0);
-    }
-    let v = bad_cost(costs, bound);
-    if v < costs.len() {
-        return Verdict::Refused(Cause::Cost, v);
-    }
-    let j = bad_end(costs.len(), starts, ends, widths);
-    if j < starts.len() {
-        return Verdict::Refused(Cause::Ends, j);
-    }
-    Verdict::Passed
+    let Problem { lists, k, bound } = problem;
+    let n = lists.costs.len();
+    let m = lists.starts.len();
+    Cause::Vertices.refuse_if(bad_vertices(most, n))?;
+    Cause::Parts.refuse_if(bad_parts(k, n))?;
+    Cause::Edges.refuse_if(bad_edges(m, lists.ends.len(), lists.widths.len()))?;
+    Cause::Room.refuse_if(!room)?;
+    Cause::Cost.refuse_at(bad_cost(lists.costs, bound))?;
+    Cause::Ends.refuse_at(bad_end(lists))?;
+    Ok(())
 }
 
-// A refusal by check 7.
-fn refuse_repeat(found: Repeated) -> Checked
-    ensures { (result.verdict ≡ Refused Repeat found.place) × (result.tried ≡ found.tried) }
+// The edges of lists that pass checks 1 to 6.
+fn fit_lists<'x>(most: usize, problem: Problem<'x>, room: bool) -> Result<Fitted<'x>, Refusal>
+    requires { most ≤ 512 }
+    ensures value { MatchResult result (λ f. lists_from most (graph_in problem.entry.lists) problem.entry.k problem.entry.bound room Passed ≡ Passed)
+        (λ r. lists_from most (graph_in problem.entry.lists) problem.entry.k problem.entry.bound room Passed ≡ Err r) }
+    ensures own { IfOk result (λ f. (f.n ≡ length problem.entry.lists.costs.now)
+        × ((f.edges.starts.now ≡ problem.entry.lists.starts.now) × (f.edges.ends.now ≡ problem.entry.lists.ends.now))) }
 {
-    Checked {
-        verdict: Verdict::Refused(Cause::Repeat, found.place),
-        tried: found.tried,
-    }
-}
-
-// Check 8, from the lowest vertex on a cycle, after `tried` edges.
-fn check_cycle(v: usize, n: usize, tried: usize) -> Checked
-    ensures { (result.verdict ≡ refuse_at Cycle v n Passed) × (result.tried ≡ tried) }
-{
-    if v < n {
-        return Checked {
-            verdict: Verdict::Refused(Cause::Cycle, v),
-            tried: tried,
-        };
-    }
-    Checked {
-        verdict: Verdict::Passed,
-        tried: tried,
-    }
+    check_lists(most, problem, room)?;
+    let Lists {
+        costs,
+        starts,
+        ends,
+        ..
+    } = problem.lists;
+    let edges = EdgeLists { starts, ends };
+    let n = costs.len();
+    Ok(Fitted { n, edges })
 }
 
 // Checks 7 and 8, the order left.
 fn check_order(
-    n: usize,
-    starts: &[u16],
-    ends: &[u16],
+    lists: Fitted<'_>,
     order: &mut [u16; 512],
     levels: &mut [u16; 512],
-    head: &mut [u16; 513],
-    next: &mut [u16; 1024],
+    links: &mut LinkTable,
 ) -> Checked
-    requires fits { Fits n starts.now ends.now }
-    requires order_len { (length order.old ≡ 512) × (length next.old ≡ 1024) }
-    ensures verdict_value { (result.verdict ≡ repeats_from n starts.now ends.now) × (result.tried ≡ tried_of starts.now ends.now) }
-    ensures order_left { OrderLeft result.verdict n starts.now ends.now order.old order.new levels.new head.new next.new }
+    ensures verdict_value { (result.verdict ≡ repeats_from lists.entry.n lists.entry.edges.starts.now lists.entry.edges.ends.now)
+        × (result.tried ≡ tried_of lists.entry.edges.starts.now lists.entry.edges.ends.now) }
+    ensures order_left { OrderLeft result.verdict lists.entry.n lists.entry.edges.starts.now lists.entry.edges.ends.now order.old order.new levels.new links.new.head links.new.next }
 {
     let mut left = [0u8; 512];
-    let found = find_repeat(n, starts, ends, false, &mut left);
-    if found.place < starts.len() {
-        return refuse_repeat(found);
+    let found = find_repeat(lists, false, &mut left);
+    if let Some(place) = found.place {
+        return found.refuse(place);
     }
-    let v = ordering::lowest_on_cycle(starts, ends, n, order, levels, head, next);
-    check_cycle(v, n, found.tried)
+    let v = ordering::lowest_on_cycle(lists.edges, lists.n, order, levels, links);
+    Checked {
+        verdict: Cause::Cycle.refuse_at(v),
+        tried: found.tried,
+    }
 }
 
 // Checks 7 and 8. Where all edges go up in number, they form no cycle, and nothing need be marked.
-fn check_edges(n: usize, starts: &[u16], ends: &[u16]) -> Checked
-    requires { Fits n starts.now ends.now }
-    ensures { (result.verdict ≡ repeats_from n starts.now ends.now) × (result.tried ≡ tried_of starts.now ends.now) }
+fn check_edges(lists: Fitted<'_>) -> Checked
+    ensures { (result.verdict ≡ repeats_from lists.entry.n lists.entry.edges.starts.now lists.entry.edges.ends.now)
+        × (result.tried ≡ tried_of lists.entry.edges.starts.now lists.entry.edges.ends.now) }
 {
-    let rises = cycle_test::rises(starts, ends);
+    let rises = cycle_test::rises(lists.edges);
     let mut left = [0u8; 512];
-    let found = find_repeat(n, starts, ends, !rises, &mut left);
-    if found.place < starts.len() {
-        return refuse_repeat(found);
+    let found = find_repeat(lists, !rises, &mut left);
+    if let Some(place) = found.place {
+        return found.refuse(place);
     }
     if rises {
-        return check_cycle(n, n, found.tried);
+        return Checked {
+            verdict: Ok(()),
+            tried: found.tried,
+        };
     }
-    let v = cycle_test::find_cycle(starts, ends, &left, n);
-    check_cycle(v, n, found.tried)
+    let v = cycle_test::find_cycle(lists.edges, &left, lists.n);
+    Checked {
+        verdict: Cause::Cycle.refuse_at(v),
+        tried: found.tried,
+    }
 }
 
 // Checks 1 to 8. Where they pass, the topological order of the vertices is left in the front of `order`, their levels in `levels`,
-// and the links of the edges from each in `head` and `next`.
+// and the links of the edges from each in `links`.
 pub fn check(
     most: usize,
-    costs: &[u16],
-    starts: &[u16],
-    ends: &[u16],
-    widths: &[u16],
-    k: usize,
-    bound: u32,
+    problem: Problem<'_>,
     room: bool,
     order: &mut [u16; 512],
     levels: &mut [u16; 512],
-    head: &mut [u16; 513],
-    next: &mut [u16; 1024],
+    links: &mut LinkTable,
 ) -> Checked
-    requires { (most ≤ 512) × (length order.old ≡ 512) × (length next.old ≡ 1024) }
-    ensures value { result ≡ checked_with (checked most (graph_of costs.now starts.now ends.now widths.now) k bound room) (length starts.now) }
-    ensures order_left { OrderLeft result.verdict (length costs.now) starts.now ends.now order.old order.new levels.new head.new next.new }
+    requires { most ≤ 512 }
+    ensures value { result ≡ checked_with (checked most (graph_in problem.entry.lists) problem.entry.k problem.entry.bound room) (length problem.entry.lists.starts.now) }
+    ensures order_left { OrderLeft result.verdict (length problem.entry.lists.costs.now) problem.entry.lists.starts.now problem.entry.lists.ends.now order.old order.new levels.new links.new.head links.new.next }
 {
-    let lists = check_lists(most, costs, starts, ends, widths, k, bound, room);
-    if let Verdict::Refused(cause, place) = lists {
-        return Checked {
-            verdict: Verdict::Refused(cause, place),
+    match fit_lists(most, problem, room) {
+        Ok(lists) => check_order(lists, order, levels, links),
+        Err(refusal) => Checked {
+            verdict: Err(refusal),
             tried: 0,
-        };
+        },
     }
-    check_order(costs.len(), starts, ends, order, levels, head, next)
 }
 
 // Checks 1 to 8 for callers that want nothing of the order.
-pub fn check_bare(
-    most: usize,
-    costs: &[u16],
-    starts: &[u16],
-    ends: &[u16],
-    widths: &[u16],
-    k: usize,
-    bound: u32,
-    room: bool,
-) -> Checked
+pub fn check_bare(most: usize, problem: Problem<'_>, room: bool) -> Checked
     requires { most ≤ 512 }
-    ensures { result ≡ checked_with (checked most (graph_of costs.now starts.now ends.now widths.now) k bound room) (length starts.now) }
+    ensures { result ≡ checked_with (checked most (graph_in problem.entry.lists) problem.entry.k problem.entry.bound room) (length problem.entry.lists.starts.now) }
 {
-    let lists = check_lists(most, costs, starts, ends, widths, k, bound, room);
-    if let Verdict::Refused(cause, place) = lists {
-        return Checked {
-            verdict: Verdict::Refused(cause, place),
+    match fit_lists(most, problem, room) {
+        Ok(lists) => check_edges(lists),
+        Err(refusal) => Checked {
+            verdict: Err(refusal),
             tried: 0,
-        };
+        },
     }
-    check_edges(costs.len(), starts, ends)
 }
 
 // Document 02, b: the check of a kit that is being drawn. Nothing is lent to write to, so that there is no check 4.
-pub fn check_kit(
-    costs: &[u16],
-    starts: &[u16],
-    ends: &[u16],
-    widths: &[u16],
-    k: usize,
-    bound: u32,
-) -> Checked
-    ensures { result ≡ check_of (graph_of costs.now starts.now ends.now widths.now) k bound }
+pub fn check_kit(problem: Problem<'_>) -> Checked
+    ensures { result ≡ check_of (graph_in problem.entry.lists) problem.entry.k problem.entry.bound }
 {
-    check_bare(512, costs, starts, ends, widths, k, bound, true)
+    check_bare(512, problem, true)
 }

@@ -1,40 +1,48 @@
 -- Checks 10 to 12: each refuses at its place, or passes on; sums stand for parts since costs are above 0.
+use Rattle.std.proofs.Common.{rules, refl}
+use Rattle.std.proofs.lemmas.Result.{err_from_is_err_and}
+use Rattle.graph.proofs.Totals.{zero_sums}
+use Rattle.validity.specs.Check.{refuse_at}
+use Rattle.validity.proofs.Checks.{no_fault, hands_on, refuses_here}
 use Rattle.inspection.specs.Table.{table_of}
 use Rattle.inspection.proofs.Tables.{entry_at, entries_left, empty_at, over_at, table_keyed, table_joins, table_inside}
 use Rattle.inspection.proofs.Between.{judged_refused, judged_as}
-use Rattle.validity.proofs.Checks.{at_hit, at_pass}
-use Rattle.graph.proofs.Totals.{zero_sums}
-use native.Mathlib.Omega.{arith}
-use mathlib.Core.Path.{refl}
 use Rattle.inspection.proofs.check_table.Goals as goal
 
-pub returns-then-v-parts : goal.returns-then-v-parts
-unfolding table_of
-returns-then-v-parts c = judged_refused (at_hit _ _ _ _ _ (entry_at c.requires c.bad_entry-v.ensures) (omega (arith, c.requires.whole))) refl
+pub returns-in_err-refuse_at : goal.returns-in_err-refuse_at
+unfolding table_of refuse_at
+returns-in_err-refuse_at c =
+    let p = err_from_is_err_and c.from_residual.result c.from_residual.ensures.1 in
+    let h = c.refuse_at.ensures _ _ (entry_at c.requires c.bad_entry.ensures) in
+    judged_refused (rw p.2 at p.1) (search (rules, refuses_here)) refl
 
 pub sum_costs-requires : goal.sum_costs-requires
-unfolding table_of
+unfolding refuse_at
 sum_costs-requires c = record {
-  keyed = table_keyed c.requires (entries_left c.requires c.bad_entry-v.ensures c.if-v-parts.false);
+  keyed = table_keyed c.requires (entries_left c.requires (no_fault _ _ refl (c.refuse_at.ensures _ _ (entry_at c.requires c.bad_entry.ensures)) c.in_ok-refuse_at.was));
   by_index = zero_sums 16;
 }
 
-pub returns-then-e-k : goal.returns-then-e-k
-unfolding table_of
-returns-then-e-k c = judged_refused
-    (at_pass _ _ _ _ _ _ (entry_at c.requires c.bad_entry-v.ensures) (omega (arith, c.requires.whole, c.if-v-parts.false))
-    (at_hit _ _ _ _ _ (empty_at c.requires c.sum_costs.ensures c.empty_part-e.ensures) c.if-e-k.true)) refl
+pub returns-in_err-refuse_at-2 : goal.returns-in_err-refuse_at-2
+unfolding table_of refuse_at
+returns-in_err-refuse_at-2 c =
+    let p = err_from_is_err_and c.from_residual-in_err-refuse_at-2.result c.from_residual-in_err-refuse_at-2.ensures.1 in
+    let h = c.refuse_at.ensures _ _ (entry_at c.requires c.bad_entry.ensures) in
+    let i = c.refuse_at-2.ensures _ _ (empty_at c.requires c.sum_costs.ensures c.empty_part.ensures) in
+    judged_refused (rw p.2 at p.1) (search (rules, hands_on, refuses_here)) refl
 
-pub returns-then-o-k : goal.returns-then-o-k
-unfolding table_of
-returns-then-o-k c = judged_refused
-    (at_pass _ _ _ _ _ _ (entry_at c.requires c.bad_entry-v.ensures) (omega (arith, c.requires.whole, c.if-v-parts.false))
-    (at_pass _ _ _ _ _ _ (empty_at c.requires c.sum_costs.ensures c.empty_part-e.ensures) c.if-e-k.false
-    (at_hit _ _ _ _ _ (over_at c.requires c.sum_costs.ensures _ c.over_part-o.ensures) c.if-o-k.true))) refl
+pub returns-in_err-refuse_at-3 : goal.returns-in_err-refuse_at-3
+unfolding table_of refuse_at
+returns-in_err-refuse_at-3 c =
+    let p = err_from_is_err_and c.from_residual-in_err-refuse_at-3.result c.from_residual-in_err-refuse_at-3.ensures.1 in
+    let h = c.refuse_at.ensures _ _ (entry_at c.requires c.bad_entry.ensures) in
+    let i = c.refuse_at-2.ensures _ _ (empty_at c.requires c.sum_costs.ensures c.empty_part.ensures) in
+    let j = c.refuse_at-3.ensures _ _ (over_at c.requires c.sum_costs.ensures c.args.problem.bound c.over_part.ensures) in
+    judged_refused (rw p.2 at p.1) (search (rules, hands_on, refuses_here)) refl
 
 pub finish-requires : goal.finish-requires
-unfolding table_of
-finish-requires c = let named = entries_left c.requires c.bad_entry-v.ensures c.if-v-parts.false in
+unfolding refuse_at
+finish-requires c = let named = entries_left c.requires (no_fault _ _ refl (c.refuse_at.ensures _ _ (entry_at c.requires c.bad_entry.ensures)) c.in_ok-refuse_at.was) in
     record {
       joins = table_joins c.requires named;
       inside = table_inside c.requires named;
@@ -43,9 +51,9 @@ finish-requires c = let named = entries_left c.requires c.bad_entry-v.ensures c.
     }
 
 pub returns : goal.returns
-unfolding table_of
-returns c = judged_as
-    (at_pass _ _ _ _ _ _ (entry_at c.requires c.bad_entry-v.ensures) (omega (arith, c.requires.whole, c.if-v-parts.false))
-    (at_pass _ _ _ _ _ _ (empty_at c.requires c.sum_costs.ensures c.empty_part-e.ensures) c.if-e-k.false
-    (at_pass _ _ _ _ _ _ (over_at c.requires c.sum_costs.ensures _ c.over_part-o.ensures) c.if-o-k.false refl)))
-    c.finish.ensures
+unfolding table_of refuse_at
+returns c =
+    let h = c.refuse_at.ensures _ _ (entry_at c.requires c.bad_entry.ensures) in
+    let i = c.refuse_at-2.ensures _ _ (empty_at c.requires c.sum_costs.ensures c.empty_part.ensures) in
+    let j = c.refuse_at-3.ensures _ _ (over_at c.requires c.sum_costs.ensures c.args.problem.bound c.over_part.ensures) in
+    judged_as (hands_on _ _ refl h c.in_ok-refuse_at.was (hands_on _ _ refl i c.in_ok-refuse_at-2.was (hands_on _ _ refl j c.in_ok-refuse_at-3.was refl))) c.finish.ensures

@@ -1,16 +1,10 @@
-use Rattle.folds.proofs.Cases.{cases}
-use Rattle.folds.proofs.Searches.{first_to_zero, first_to_more, first_to_at, first_to_end}
-use native.Mathlib.Omega.{arith}
+-- The test is that of the definition.
+use Rattle.std.proofs.Common.{rules, tests, ltb}
+use Rattle.std.proofs.lemmas.Iterator.{YieldsList-from_slice}
+use Rattle.std.proofs.lemmas.Iterator.Search.{position_from_yields_List}
+use Rattle.inspection.proofs.Tables.{position_first}
 use Rattle.inspection.proofs.over_part.Goals as goal
 
-pub loop-u-init : goal.loop-u-init
-loop-u-init c = (omega arith, first_to_zero _)
-
-pub returns-then-sums-u : goal.returns-then-sums-u
-returns-then-sums-u c = search (first_to_at, cases)
-
-pub loop-u-preserved : goal.loop-u-preserved
-loop-u-preserved c = (omega arith, search (first_to_more, cases))
-
 pub returns : goal.returns
-returns c = search first_to_end
+returns c =
+    position_first _ _ (position_from_yields_List (λ sum. ltb c.args.bound sum) _ _ _ c.position.ensures.ran (YieldsList-from_slice c.args.sums.now cc) (λ x b q k. search (rules, tests)))

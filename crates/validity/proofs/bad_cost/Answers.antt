@@ -1,9 +1,8 @@
--- Where none is refused, the lowest is past the last.
-use Rattle.validity.proofs.Checks.{none_first}
+-- The test is check 5's of a vertex.
+use Rattle.std.proofs.Common.{rules}
+use Rattle.validity.specs.Check.{bad_cost}
 use Rattle.validity.proofs.bad_cost.Goals as goal
 
-pub returns-then-cost_faults-eq0 : goal.returns-then-cost_faults-eq0
-returns-then-cost_faults-eq0 c = none_first _ c.cost_faults.ensures c.if-cost_faults-eq0.true
-
 pub returns : goal.returns
-returns c = c.first_cost_fault.ensures
+unfolding bad_cost
+returns c = c.first_fault.ensures (bad_cost c.args.costs.now c.args.bound) (λ j r l e. search rules)

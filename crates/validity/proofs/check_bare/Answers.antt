@@ -2,11 +2,8 @@
 use Rattle.validity.proofs.Repeats.{lists_refused, lists_passed}
 use Rattle.validity.proofs.check_bare.Goals as goal
 
-pub returns-in-Refused : goal.returns-in-Refused
-returns-in-Refused c = lists_refused _ _ _ _ _ c.check_lists-lists.ensures.value c.in-Refused.is
+pub returns-in-Ok : goal.returns-in-Ok
+returns-in-Ok c = let (n, (starts, ends)) = c.in-Ok.ensures.own in lists_passed _ _ _ _ _ c.in-Ok.ensures.value (rw (n, starts, ends) at c.check_edges.ensures)
 
-pub check_edges-requires : goal.check_edges-requires
-check_edges-requires c = c.check_lists-lists.ensures.fits c.in_default.is
-
-pub returns : goal.returns
-returns c = lists_passed _ _ _ _ _ c.check_lists-lists.ensures.value c.in_default.is c.check_edges.ensures
+pub returns-in-Err : goal.returns-in-Err
+returns-in-Err c = lists_refused _ _ _ _ _ c.in-Err.ensures.value

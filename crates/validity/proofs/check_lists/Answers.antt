@@ -1,63 +1,51 @@
 -- Each check refuses, or hands on to the next; what passed leaves the sizes and the ends that the rest asks for.
-use Rattle.validity.specs.Check.{lists_from}
-use Rattle.validity.proofs.Checks.{at_hit, at_pass, sizes_fit, ends_fit_left, not_passed}
-use Rattle.folds.proofs.Cases.{cases, told}
+use Rattle.std.proofs.Common.{rules, refl}
+use Rattle.validity.specs.Check.{lists_from, refuse_at}
+use Rattle.validity.proofs.Checks.{no_fault, hands_on, refuses_here, sizes_fit, ends_fit_left}
 use Rattle.validity.proofs.check_lists.Goals as goal
 
-pub returns-then-bad_vertices : goal.returns-then-bad_vertices
+pub returns-in_err-refuse_if-clause-value : goal.returns-in_err-refuse_if-clause-value
 unfolding lists_from
-returns-then-bad_vertices c = record {
-  value = search (cases, told);
-  fits = λ e. absurd (not_passed e);
-}
+returns-in_err-refuse_if-clause-value c = search (rules, hands_on, refuses_here)
 
-pub returns-then-bad_parts : goal.returns-then-bad_parts
+pub returns-in_err-refuse_if-2-clause-value : goal.returns-in_err-refuse_if-2-clause-value
 unfolding lists_from
-returns-then-bad_parts c = record {
-  value = search (cases, told);
-  fits = λ e. absurd (not_passed e);
-}
+returns-in_err-refuse_if-2-clause-value c = search (rules, hands_on, refuses_here)
 
-pub returns-then-bad_edges : goal.returns-then-bad_edges
+pub returns-in_err-refuse_if-3-clause-value : goal.returns-in_err-refuse_if-3-clause-value
 unfolding lists_from
-returns-then-bad_edges c = record {
-  value = search (cases, told);
-  fits = λ e. absurd (not_passed e);
-}
+returns-in_err-refuse_if-3-clause-value c = search (rules, hands_on, refuses_here)
 
-pub returns-then-not-room : goal.returns-then-not-room
+pub returns-in_err-refuse_if-4-clause-value : goal.returns-in_err-refuse_if-4-clause-value
 unfolding lists_from
-returns-then-not-room c = record {
-  value = search (cases, told);
-  fits = λ e. absurd (not_passed e);
-}
+returns-in_err-refuse_if-4-clause-value c = search (rules, hands_on, refuses_here) depth 7
 
-pub bad_cost-v-requires : goal.bad_cost-v-requires
-unfolding lists_from
-bad_cost-v-requires c = (sizes_fit _ _ _ _ _ c.requires (told _ _ _ c.bad_vertices.ensures c.if-bad_vertices.false) (told _ _ _ c.bad_edges.ensures c.if-bad_edges.false)).0.0
+pub bad_cost-requires : goal.bad_cost-requires
+bad_cost-requires c = (sizes_fit _ _ _ _ _ c.requires (no_fault _ _ c.bad_vertices.ensures c.refuse_if.ensures c.in_ok-refuse_if.was) (no_fault _ _ c.bad_edges.ensures c.refuse_if-3.ensures c.in_ok-refuse_if-3.was)).0.0
 
-pub returns-then-v-costs : goal.returns-then-v-costs
-unfolding lists_from
-returns-then-v-costs c = record {
-  value = search (cases, told, at_hit) depth 8;
-  fits = λ e. absurd (not_passed e);
-}
+pub returns-in_err-refuse_at-clause-value : goal.returns-in_err-refuse_at-clause-value
+unfolding lists_from refuse_at
+returns-in_err-refuse_at-clause-value c = let h = c.refuse_at.ensures _ _ c.bad_cost.ensures in search (rules, hands_on, refuses_here) depth 8
 
-pub bad_end-j-requires : goal.bad_end-j-requires
-unfolding lists_from
-bad_end-j-requires c = let z = sizes_fit _ _ _ _ _ c.requires (told _ _ _ c.bad_vertices.ensures c.if-bad_vertices.false) (told _ _ _ c.bad_edges.ensures c.if-bad_edges.false) in (z.1.0, z.1.1, z.0.1, z.0.0)
+pub bad_end-requires : goal.bad_end-requires
+bad_end-requires c =
+    let z = sizes_fit _ _ _ _ _ c.requires (no_fault _ _ c.bad_vertices.ensures c.refuse_if.ensures c.in_ok-refuse_if.was) (no_fault _ _ c.bad_edges.ensures c.refuse_if-3.ensures c.in_ok-refuse_if-3.was) in
+    record { same = z.1; few = z.0 }
 
-pub returns-then-j-starts : goal.returns-then-j-starts
-unfolding lists_from
-returns-then-j-starts c = record {
-  value = search (cases, told, at_hit, at_pass) depth 9;
-  fits = λ e. absurd (not_passed e);
-}
+pub returns-in_err-refuse_at-2-clause-value : goal.returns-in_err-refuse_at-2-clause-value
+unfolding lists_from refuse_at
+returns-in_err-refuse_at-2-clause-value c =
+    let h = c.refuse_at.ensures _ _ c.bad_cost.ensures in
+    let k = c.refuse_at-2.ensures _ _ c.bad_end.ensures in search (rules, hands_on, refuses_here) depth 9
 
-pub returns : goal.returns
-unfolding lists_from
-returns c = let z = sizes_fit _ _ _ _ _ c.requires (told _ _ _ c.bad_vertices.ensures c.if-bad_vertices.false) (told _ _ _ c.bad_edges.ensures c.if-bad_edges.false) in
-    record {
-      value = search (cases, told, at_pass) depth 9;
-      fits = λ _. ends_fit_left _ _ _ _ _ z.0.0 z.0.1 z.1.0 c.bad_end-j.ensures c.if-j-starts.false;
-    }
+pub returns-clause-value : goal.returns-clause-value
+unfolding lists_from refuse_at
+returns-clause-value c =
+    let h = c.refuse_at.ensures _ _ c.bad_cost.ensures in
+    let k = c.refuse_at-2.ensures _ _ c.bad_end.ensures in search (rules, hands_on) depth 9
+
+pub returns-clause-fits : goal.returns-clause-fits
+unfolding refuse_at
+returns-clause-fits c e =
+    let z = sizes_fit _ _ _ _ _ c.requires (no_fault _ _ c.bad_vertices.ensures c.refuse_if.ensures c.in_ok-refuse_if.was) (no_fault _ _ c.bad_edges.ensures c.refuse_if-3.ensures c.in_ok-refuse_if-3.was) in
+    ends_fit_left _ _ _ _ z.0.0 z.0.1 z.1.0 (no_fault _ _ refl (c.refuse_at-2.ensures _ _ c.bad_end.ensures) c.in_ok-refuse_at-2.was)

@@ -1,29 +1,19 @@
-use Rattle.folds.proofs.Searches.{first_to_zero, first_to_end}
-use native.Mathlib.Omega.{arith}
-use Rattle.validity.proofs.Checks.{fault_here, fault_later}
-use Rattle.validity.specs.Check.{bad_ends}
+use Rattle.std.proofs.Common.{sym, ◌∙◌}
+use Rattle.folds.proofs.Searches.{first_to_zero, first_to_more}
+use Rattle.validity.proofs.Checks.{none_first, first_some, first_none}
 use Rattle.validity.proofs.first_fault.Goals as goal
 
+pub returns-then-count_faults-eq0 : goal.returns-then-count_faults-eq0
+returns-then-count_faults-eq0 g c p t = none_first _ _ (c.count_faults.ensures p (λ j r l e. t j r l e)) c.if-count_faults-eq0.true
+
 pub loop-j-init : goal.loop-j-init
-unfolding bad_ends
-loop-j-init c = (omega arith, first_to_zero _)
+loop-j-init g c p t = first_to_zero p
 
-pub bounds-ends-j : goal.bounds-ends-j
-unfolding bad_ends
-bounds-ends-j c = omega (arith, c.requires.0)
-
-pub bounds-widths-j : goal.bounds-widths-j
-unfolding bad_ends
-bounds-widths-j c = omega (arith, c.requires.1)
-
-pub returns-then-fault-eq1 : goal.returns-then-fault-eq1
-unfolding bad_ends
-returns-then-fault-eq1 c = fault_here _ c.loop-j.invariant.1 c.fault.ensures.0 c.if-fault-eq1.true c.loop-j-test.true
+pub returns-then-fault : goal.returns-then-fault
+returns-then-fault g c p t = first_some _ _ p (c.loop-j.invariant p t) (sym (t _ _ c.loop-j-test.true c.fault.ensures) ∙ c.if-fault.true) c.loop-j-test.true
 
 pub loop-j-preserved : goal.loop-j-preserved
-unfolding bad_ends
-loop-j-preserved c = (omega arith, fault_later _ c.loop-j.invariant.1 c.fault.ensures.0 c.if-fault-eq1.false)
+loop-j-preserved g c p t = first_to_more _ p (c.loop-j.invariant p t) (sym (t _ _ c.loop-j-test.true c.fault.ensures) ∙ c.if-fault.false)
 
 pub returns : goal.returns
-unfolding bad_ends
-returns c = search first_to_end
+returns g c p t = first_none _ _ p (c.loop-j.invariant p t) c.loop-j.auto.j-end c.loop-j-test.false

@@ -1,13 +1,8 @@
--- No edge below j is refused: the search stands at j.
+-- No number below j has a fault: the search stands at j.
+use Rattle.std.proofs.Common.{◌≡◌, ℕ, Bool}
 use Rattle.folds.specs.Fold.{first_to}
-use lib.ListN.{length}
-use mathlib.Core.Path.{◌≡◌}
-use Prim.Native.Nat.{◌≤◌, ◌-◌}
-use Rattle.validity.specs.Check.{bad_ends}
+use Rattle.validity.specs.Faults.{Tells}
 use Rattle.validity.proofs.first_fault.Given as goal
 
 abbrev pub invariant-loop-j : goal.invariant-loop-j
-invariant-loop-j l = (l.j ≤ length l.starts) × (first_to l.j (bad_ends l.n l.starts l.ends l.widths) ≡ l.j)
-
-abbrev pub decreases-loop-j : goal.decreases-loop-j
-decreases-loop-j l = length l.starts - l.j
+invariant-loop-j g l = (p : ℕ → Bool) → Tells (goal.F-post g l.fault) l.n p → first_to l.j p ≡ l.j
