@@ -8,7 +8,7 @@ use lib.Dec.{eqb, ltb}
 use lib.ListN.{length, get_or, set, length-set}
 use lib.Seq.{get_or-set_same, get_or-set_other}
 use borrow.Author.Tests.{eq-eqb, ne_eqb, ltb-true, ltb-false, lt-ltb, le-ltb}
-use Rattle.folds.specs.Fold.{when, count_to, list_to, over, zeros, Filled, Read}
+use Rattle.folds.specs.Fold.{when, count_to, list_to, over, zeros, Filled}
 use Rattle.folds.proofs.Cases.{by, either, eq_or_ne}
 use Rattle.folds.proofs.Sums.{sum_to_zero, count_to_step, count_to_le}
 use Rattle.folds.proofs.Lists.{get_d_zeros, length-zeros, listed}
@@ -116,15 +116,15 @@ module _ (row mates : List ℕ) (S : Short row) (M : Mated mates) where
               (sym (passed d (λ q. either (lowest_apart row m M.back c d (omega arith) (omega arith) (e ∙ sym q)) nc (λ k. nq (k ∙ mate_at M lc)))))))
 
   -- the same at the code's cluster, and what is then written for v
-  pub name_turn : {v c b count r : ℕ} {names names' : List ℕ} → v < length row → Read row v b c → Numbering row m v names count
+  pub name_turn : {v c count r : ℕ} {names names' : List ℕ} → v < length row → c ≡ get_or row v 0 → Numbering row m v names count
       → NamesGiven mates c count names names' r → Numbering row m (v + 1) names' r
-  name_turn l k N W = numbering_turn l N (rw k.is at W)
+  name_turn l k N W = numbering_turn l N (rw k at W)
 
-  pub name_at : {v c b count : ℕ} {names : List ℕ} → v < length row → Read row v b c → Numbering row m (v + 1) names count → get_or names c 0 ≡ suc (number row m (get_or row v 0))
-  name_at {v} l k N = rw k.is (N.is (get_or row v 0) (S.low v l) ∙ rw (lt-ltb (lowest row m (get_or row v 0)) (v + 1) (omega (arith, lowest_le row m v l))))
+  pub name_at : {v c count : ℕ} {names : List ℕ} → v < length row → c ≡ get_or row v 0 → Numbering row m (v + 1) names count → get_or names c 0 ≡ suc (number row m (get_or row v 0))
+  name_at {v} l k N = rw k (N.is (get_or row v 0) (S.low v l) ∙ rw (lt-ltb (lowest row m (get_or row v 0)) (v + 1) (omega (arith, lowest_le row m v l))))
 
-  pub cluster_low : {v c b : ℕ} → v < length row → Read row v b c → c < 512
-  cluster_low l k = rw k.is (S.low _ l)
+  pub cluster_low : {v c : ℕ} → v < length row → c ≡ get_or row v 0 → c < 512
+  cluster_low l k = rw k (S.low _ l)
 
   pub joined_end : {v count : ℕ} {names out₀ out : List ℕ} → v ≤ length row → length row ≤ v → Numbering row m v names count
       → Filled out₀ out v (λ w. number row m (get_or row w 0)) → Joined row m out₀ out count
@@ -145,17 +145,17 @@ pub record Mapped (row : List ℕ) (f : ℕ → ℕ) (v : ℕ) (map : List ℕ) 
 pub mapped_none : (row : List ℕ) (f : ℕ → ℕ) → Mapped row f 0 (zeros 512)
 mapped_none row f = record { tall = length-zeros 512; is = λ w l. absurd (omega arith) }
 
-pub mapped_turn : {row map : List ℕ} {f : ℕ → ℕ} {v c b x : ℕ} → Mapped row f v map → Read row v b c → c < 512 → x ≡ f (get_or row v 0) → Mapped row f (v + 1) (set map c x)
-mapped_turn {row} {map} {f} {v} {c} {b} {x} M k l e =
+pub mapped_turn : {row map : List ℕ} {f : ℕ → ℕ} {v c x : ℕ} → Mapped row f v map → c ≡ get_or row v 0 → c < 512 → x ≡ f (get_or row v 0) → Mapped row f (v + 1) (set map c x)
+mapped_turn {row} {map} {f} {v} {c} {x} M k l e =
     record {
       tall = length-set map c x ∙ M.tall;
       is = λ w lw. either (eq_or_ne (get_or row w 0) c)
-          (λ q. rw (q, get_or-set_same map c x 0 (omega (arith, M.tall))) (e ∙ ap f (sym k.is)))
+          (λ q. rw (q, get_or-set_same map c x 0 (omega (arith, M.tall))) (e ∙ ap f (sym k)))
           (λ n. get_or-set_other map c (get_or row w 0) x 0 n ∙ M.is w (omega (arith, at_other w lw n)));
     }
   where
     at_other : (w : ℕ) → w < v + 1 → (get_or row w 0 ≡ c → ⊥) → w < v
-    at_other w lw n = either (eq_or_ne w v) (λ q. absurd (n (ap (λ (z : ℕ). get_or row z 0) q ∙ sym k.is))) (λ q. omega arith)
+    at_other w lw n = either (eq_or_ne w v) (λ q. absurd (n (ap (λ (z : ℕ). get_or row z 0) q ∙ sym k))) (λ q. omega arith)
 
 pub renamed_end : {row map : List ℕ} (m : ℕ → ℕ) {v : ℕ} → length row ≤ v → Mapped row (number row m) v map → Renamed row (joined_row row m) map
 renamed_end {row} {map} m l M = record { tall = M.tall; is = λ w lw. M.is w (omega arith) ∙ sym (next_at row m w lw) }

@@ -1,5 +1,5 @@
 -- What is carried of a row is what a round on its lists asks for, and the round is that on the row.
-use Prim.Native.Nat.{ℕ, ◌<◌}
+use Prim.Native.Nat.{ℕ, ◌≤◌, ◌<◌}
 use mathlib.Core.Path.{◌≡◌, sym, ap, ◌∙◌}
 use mathlib.Core.List.{List}
 use native.Mathlib.Omega.{arith}
@@ -23,6 +23,21 @@ use Rattle.hierarchy.specs.Promises.{Carries}
 pub coarse_order : {G : Graph} {row : List ℕ} {g : ℕ} {froms tos widths : List ℕ} → Coarse G row g froms tos widths → Proper G → RowOf G row g → order_of (joining froms tos) g ≡ order_of (seen G row) g
 coarse_order {G} {row} {g} {froms} {tos} C P R = rw (← coarse_joining C) (order_same (arcs (identity g) froms tos) (seen G row) (coarse_edge C P.formed R P.wide) g)
 
+-- the lists of a row are edges between clusters, no two from one to the same
+pub coarse_simple : {G : Graph} {row : List ℕ} {g : ℕ} {froms tos widths : List ℕ} → Coarse G row g froms tos widths → g ≤ 512 → Simple froms tos widths
+coarse_simple {froms = froms} {tos = tos} C small =
+    record {
+      joins = coarse_ended C small;
+      same = C.same_widths;
+      narrow = rw C.same_widths C.narrow;
+      single = single;
+    }
+  where
+    single : (i j : ℕ) → i < length froms → j < length froms → get_or froms i 0 ≡ get_or froms j 0 → get_or tos i 0 ≡ get_or tos j 0 → i ≡ j
+    single i j li lj f t =
+        either (eq_or_ne i j) (λ e. e)
+        (λ n. by (ltb i j) (λ q. absurd (C.once i j (ltb-true i j q) lj f t)) (λ q. absurd (C.once j i (omega (arith, ltb-false i j q)) li (sym f) (sym t))))
+
 module _ {G : Graph} {row : List ℕ} {g : ℕ} {weights froms tos widths order : List ℕ} (R : RoundReady G row g) (C : Carries G row g weights froms tos widths order) where
   cost_length : length (take g weights) ≡ g
   cost_length = length-take-le g weights (omega (arith, C.weighed.tall, R.small))
@@ -32,20 +47,6 @@ module _ {G : Graph} {row : List ℕ} {g : ℕ} {weights froms tos widths order 
 
   pub carried_ready : RoundReady (graph_of (take g weights) froms tos widths) (identity g) g
   carried_ready = ready_coarse R C.lists (take g weights) cost_length (λ c. cost_at c ∙ C.costs c) C.onto
-
-  pub carried_simple : Simple froms tos widths
-  carried_simple =
-      record {
-        joins = coarse_ended C.lists R.small;
-        same = C.lists.same_widths;
-        narrow = rw C.lists.same_widths C.lists.narrow;
-        single = single;
-      }
-    where
-      single : (i j : ℕ) → i < length froms → j < length froms → get_or froms i 0 ≡ get_or froms j 0 → get_or tos i 0 ≡ get_or tos j 0 → i ≡ j
-      single i j li lj f t =
-          either (eq_or_ne i j) (λ e. e)
-          (λ n. by (ltb i j) (λ q. absurd (C.lists.once i j (ltb-true i j q) lj f t)) (λ q. absurd (C.lists.once j i (omega (arith, ltb-false i j q)) li (sym f) (sym t))))
 
   pub carried_order : InOrder (joining froms tos) g order
   carried_order = record { long = C.ordered.long; is = λ i l. C.ordered.is i l ∙ ap (λ (o : List ℕ). get_or o i 0) (sym (coarse_order C.lists R.proper R.row_of)) }

@@ -6,12 +6,13 @@ use mathlib.Core.List.{List}
 use native.Mathlib.Nat.{suc-mul, mul-le-mul_right}
 use native.Mathlib.Omega.{arith}
 use lib.Dec.{ltb}
-use lib.ListN.{length, get_or, take, drop, length-take}
+use lib.ListN.{length, get_or, take, drop}
+use lib.Seq.{length-take-le}
 use borrow.Author.Tests.{lt-ltb, le-ltb}
-use borrow.Rule.Slice.PartMut.{put_mid}
-use Rattle.folds.specs.Fold.{part}
+use Rattle.std.specs.Prelude.{Some, None}
+use Rattle.folds.specs.Fold.{put, part}
 use Rattle.folds.proofs.Sums.{count_to_le}
-use Rattle.folds.proofs.Slices.{put_part, length_part, take-over, length_over}
+use Rattle.folds.proofs.Slices.{length_part, take-over}
 use Rattle.graph.specs.Graph.{Graph, vertices, seen, RowOf}
 use Rattle.graph.specs.Rows.{clusters, rows_in}
 use Rattle.graph.proofs.Edges.{row_inside}
@@ -66,15 +67,12 @@ pub length_taken : (l : List ℕ) (a n : ℕ) → a + n ≤ length l → length 
 unfolding part
 length_taken l a n h = length_part l a n h
 
-pub taken_low : (l : List ℕ) (a n : ℕ) → n ≤ 512 → length (take (a + n - a) l) ≤ 512
-taken_low l a n h = let e : a + n - a ≡ n = omega arith in rw e (simp length-take (omega arith))
+pub taken_all : (l out : List ℕ) → length l ≤ 512 → length out ≡ 512 → length (take (length l) out) ≡ length l
+taken_all l out h e = length-take-le (length l) out (omega arith)
 
 -- places of the rows
 pub rows_in_lem : (r n m : ℕ) → r < 8 → 9 * n ≤ m → r * n + n + n ≤ m
 rows_in_lem r n m l h = omega (arith, suc-mul r n, mul-le-mul_right n l)
-
-pub place_low : (r n : ℕ) → r < 8 → n ≤ 512 → r * n ≤ 4096
-place_low r n l h = omega (arith, suc-mul r n, mul-le-mul_right n l)
 
 module _ (G : Graph) (k bound r g : ℕ) (rows : List ℕ) (R : RoundReady G (rows_in rows (vertices G) r) g) where
   abbrev n : ℕ
@@ -83,7 +81,7 @@ module _ (G : Graph) (k bound r g : ℕ) (rows : List ℕ) (R : RoundReady G (ro
   abbrev row : List ℕ
   row = rows_in rows (vertices G) r
 
-  pub joined_small : g ≤ 2 * k → JoinedRow G k bound r rows rows 0
+  pub joined_small : g ≤ 2 * k → JoinedRow G k bound r rows rows None
   unfolding kept large
   joined_small l =
       let t : ltb (2 * k) (clusters row) ≡ false = le-ltb (2 * k) (clusters row) (omega (arith, R.count)) in
@@ -102,7 +100,7 @@ module _ (G : Graph) (k bound r g : ℕ) (rows : List ℕ) (R : RoundReady G (ro
     unfolding large
     is_large = lt-ltb (2 * k) (clusters row) (omega (arith, R.count))
 
-    pub joined_poor : 10 * pairs < g → JoinedRow G k bound r rows rows 0
+    pub joined_poor : 10 * pairs < g → JoinedRow G k bound r rows rows None
     unfolding kept poor
     joined_poor h =
         let t : ltb (10 * length (round_of G bound row)) (clusters row) ≡ true = lt-ltb (10 * length (round_of G bound row)) (clusters row) (omega (arith, R.count, M.counts)) in
@@ -115,18 +113,12 @@ module _ (G : Graph) (k bound r g : ℕ) (rows : List ℕ) (R : RoundReady G (ro
       J : Joined row (mate_of (round_of G bound row)) out₀ out left
       J = tried_joined bound R M (rw row_handed at J₀)
 
-      pub handed_tall : length out₀ ≡ 512 → length out ≡ 512
-      handed_tall h = ap length J.row_is ∙ length_over next out₀ (omega (arith, length_row, R.proper.few)) ∙ h
-
-      pub joined_kept : g ≤ 10 * pairs → {q : List ℕ} → q ≡ take (length (take (r * n + n + n - (r * n + n)) (drop (r * n + n) rows))) out
-          → JoinedRow G k bound r rows (put_mid (r * n + n) (r * n + n + n - (r * n + n)) rows q) left
+      pub joined_kept : g ≤ 10 * pairs → {rows' : List ℕ} → rows' ≡ put rows (r * n + n) (take n out) → JoinedRow G k bound r rows rows' (Some left)
       unfolding kept poor
-      joined_kept h {q} eq =
+      joined_kept h eq =
           let t : ltb (10 * length (round_of G bound row)) (clusters row) ≡ false = le-ltb (10 * length (round_of G bound row)) (clusters row) (omega (arith, R.count, M.counts)) in
-          let e : r * n + n + n - (r * n + n) ≡ n = omega arith in
-          let le : length (take (r * n + n + n - (r * n + n)) (drop (r * n + n) rows)) ≡ n = rw e (length_taken rows (r * n + n) n (rows_in_lem r n (length rows) lr room)) in
-          let qi : q ≡ next = eq ∙ ap (λ (z : ℕ). take z out) le ∙ ap (take n) J.row_is ∙ take-over next out₀ n length_row in
+          let q : take n out ≡ next = ap (take n) J.row_is ∙ take-over next out₀ n length_row in
           record {
-            rows_are = put_part rows next q (r * n + n) (r * n + n + n - (r * n + n)) qi (e ∙ sym length_row) ∙ rw (is_large, t);
-            answer_is = J.count_is ∙ rw (is_large, t);
+            rows_are = eq ∙ ap (put rows (r * n + n)) q ∙ rw (is_large, t);
+            answer_is = ap Some J.count_is ∙ rw (is_large, t);
           }

@@ -8,6 +8,7 @@ use native.Mathlib.Omega.{arith}
 use lib.ListN.{length, take, drop, length-append}
 use lib.Seq.{drop-drop}
 use borrow.Rule.Slice.PartMut.{put_mid}
+use Rattle.std.specs.Prelude.{Some, None}
 use Rattle.folds.specs.Fold.{over, put, part, Wrote}
 use Rattle.folds.proofs.Cases.{by}
 use Rattle.folds.proofs.Slices.{wrote_done, put_part, length-put}
@@ -17,7 +18,7 @@ use Rattle.graph.specs.Rows.{clusters, Layer, rows_in}
 use Rattle.graph.proofs.Edges.{identity_row}
 use Rattle.contraction.specs.Rules.{Keeps}
 use Rattle.contraction.specs.Next.{mate_of, next_row_of}
-use Rattle.contraction.proofs.Next.{length_next, below_clusters}
+use Rattle.contraction.proofs.Next.{length_next}
 use Rattle.contraction.proofs.Rounds.{bottom_layer, next_layer, identity-clusters}
 use Rattle.matching.specs.Choice.{round_of}
 use Rattle.matching.specs.Promises.{RoundReady}
@@ -79,9 +80,6 @@ module _ (G : Graph) (rows : List ℕ) (room : 9 * vertices G ≤ length rows) w
 
   pub first_room : {q : List ℕ} → q ≡ identity (length (take (vertices G - 0) (drop 0 rows))) → 9 * vertices G ≤ length (put_mid 0 (vertices G - 0) rows q)
   first_room e = rw (first_put e, first_length) room
-
-  pub first_same : {q : List ℕ} → q ≡ identity (length (take (vertices G - 0) (drop 0 rows))) → length (put_mid 0 (vertices G - 0) rows q) ≡ length rows
-  first_same e = rw (first_put e) first_length
 
   pub first_front : {q : List ℕ} → q ≡ identity (length (take (vertices G - 0) (drop 0 rows))) → rows_in (put_mid 0 (vertices G - 0) rows q) (vertices G) 0 ≡ identity (vertices G)
   first_front e = rw (first_put e) first_row_is
@@ -158,13 +156,10 @@ module _ (G : Graph) (k bound : ℕ) (B : Buildable G k) (rows₀ : List ℕ) (r
       next_length : length next ≡ n
       next_length = length_next row (mate_of (round_of G bound row)) ∙ C.sound.row_of.whole
 
-      next_some : 0 < clusters next
-      next_some = let h = below_clusters next 0 (omega (arith, next_length, B.proper.some)) in omega arith
-
-      pub joining_stop : {rows' : List ℕ} {h : ℕ} → JoinedRow G k bound r rows rows' h → h ≡ 0 → Built G k bound rows₀ rows' r
-      joining_stop {rows'} {h} D z =
+      pub joining_stop : {rows' : List ℕ} → JoinedRow G k bound r rows rows' None → Built G k bound rows₀ rows' r
+      joining_stop {rows'} D =
           by (kept G k bound row (round_of G bound row))
-          (λ t. let e : h ≡ clusters next = rw t at D.answer_is in absurd (omega (arith, next_some)))
+          (λ t. let e : None ≡ Some (clusters next) = rw t at D.answer_is in absurd (cc e))
           (λ t. let e : rows' ≡ rows = rw t at D.rows_are in rw e (done (rw fuel (kept_no G k bound (8 - (r + 1)) row t))))
 
       place : (r + 1) * n ≡ r * n + n
@@ -195,14 +190,15 @@ module _ (G : Graph) (k bound : ℕ) (B : Buildable G k) (rows₀ : List ℕ) (r
             kept_so = rw next_row (omega (arith, C.kept_so, ap (λ (f : ℕ). length (above G k bound f row)) fuel, ap length (kept_yes G k bound (8 - (r + 1)) row t)));
           }
 
-      pub joining_turn : {rows' : List ℕ} {h : ℕ} → JoinedRow G k bound r rows rows' h → (h ≡ 0 → ⊥) → JoiningRows G k bound rows₀ rows' (r + 1) h
-      joining_turn {rows'} {h} D z =
+      pub joining_turn : {rows' : List ℕ} {h : ℕ} → JoinedRow G k bound r rows rows' (Some h) → JoiningRows G k bound rows₀ rows' (r + 1) h
+      joining_turn {rows'} {h} D =
           by (kept G k bound row (round_of G bound row))
           (λ t.
           let e : rows' ≡ put rows (r * n + n) next = rw t at D.rows_are in
-          let a : h ≡ clusters next = rw t at D.answer_is in
+          let s : Some h ≡ Some (clusters next) = rw t at D.answer_is in
+          let a : h ≡ clusters next = cc s in
           rw (e, a) (made t))
-          (λ t. let a : h ≡ 0 = rw t at D.answer_is in absurd (z a))
+          (λ t. let s : Some h ≡ None = rw t at D.answer_is in absurd (cc s))
 
 -- row 0 first, and then the rounds
 pub built_first : {G : Graph} {k bound : ℕ} {rows rows' q : List ℕ} {r : ℕ} → 9 * vertices G ≤ length rows → q ≡ identity (length (take (vertices G - 0) (drop 0 rows)))

@@ -6,6 +6,7 @@ use native.Mathlib.Nat.{suc-mul, mul-le-mul_right}
 use native.Mathlib.Omega.{arith}
 use lib.ListN.{length, get_or, take, drop, length-set}
 use lib.Seq.{get_or-take}
+use Rattle.std.specs.Prelude.{Some, None}
 use Rattle.folds.specs.Fold.{sum_to, over, put, part, zeros, most_cost}
 use Rattle.folds.proofs.Cases.{by, either, eq_or_ne}
 use Rattle.folds.proofs.Sums.{sum_to_ext}
@@ -21,7 +22,7 @@ use Rattle.topology.proofs.Orders.{order_all}
 use Rattle.graph.proofs.Edges.{row_inside}
 use Rattle.contraction.specs.Next.{mate_of, next_row_of}
 use Rattle.contraction.specs.Promises.{Renamed}
-use Rattle.contraction.proofs.Next.{length_next, below_clusters}
+use Rattle.contraction.proofs.Next.{length_next}
 use Rattle.contraction.proofs.Rounds.{next_layer}
 use Rattle.joined_edges.proofs.Lists.{joined_twice}
 use Rattle.matching.specs.Choice.{round_of}
@@ -30,10 +31,13 @@ use Rattle.matching.proofs.Choices.{round_keeps}
 use Rattle.row_lists.specs.Carry.{Maps}
 use Rattle.row_lists.proofs.Carrying.{handed}
 use Rattle.hierarchy.specs.Rounds.{kept}
+use Rattle.matching_scan.specs.State.{Simple}
+use Rattle.graph.specs.Links.{Ended}
+use Rattle.graph.proofs.Coarse.{coarse_ended}
 use Rattle.hierarchy.specs.Promises.{Carries, JoinedRow, JoinsRow, Carrying, LevelsAt, RowsRoom, Steps, HandsOn, HandedOn}
 use Rattle.hierarchy.proofs.OneRound.{next_few, rows_in_lem}
 use Rattle.hierarchy.proofs.Handing.{next_place}
-use Rattle.hierarchy.proofs.Carrying.{coarse_order}
+use Rattle.hierarchy.proofs.Carrying.{coarse_order, coarse_simple}
 use Rattle.hierarchy.proofs.Storing.{part_before, next_of, stored_more, costs_total, renamed_through, next_costs, next_weights}
 
 -- the links and the levels of a row, as the code hands its lists on
@@ -84,6 +88,12 @@ module _ {G : Graph} {rows : List ℕ} {r g : ℕ} {froms tos widths sizes order
   pub carries_handed : {s : ℕ} → s ≡ get_or sizes r 0 → r * n + n ≤ length orders
       → Carries G row g weights (take (r * m + s - r * m) (drop (r * m) froms)) (take (r * m + s - r * m) (drop (r * m) tos)) (take (r * m + s - r * m) (drop (r * m) widths)) (take (r * n + n - r * n) (drop (r * n) orders))
   carries_handed {s} e room = rw (handed froms (r * m) s, handed tos (r * m) s, handed widths (r * m) s, handed orders (r * n) n, e) (carries room)
+
+  pub ended_handed : {s : ℕ} → s ≡ get_or sizes r 0 → Ended (take (r * m + s - r * m) (drop (r * m) froms)) (take (r * m + s - r * m) (drop (r * m) tos))
+  ended_handed {s} e = rw (handed froms (r * m) s, handed tos (r * m) s, e) (coarse_ended lists R.small)
+
+  pub simple_handed : {s : ℕ} → s ≡ get_or sizes r 0 → Simple (take (r * m + s - r * m) (drop (r * m) froms)) (take (r * m + s - r * m) (drop (r * m) tos)) (take (r * m + s - r * m) (drop (r * m) widths))
+  simple_handed {s} e = rw (handed froms (r * m) s, handed tos (r * m) s, handed widths (r * m) s, e) (coarse_simple lists R.small)
 
   -- what is handed on
   module _ (P : Proper G) (lr : r < 8) {rows' : List ℕ} (M : RowsRoom G rows' froms tos widths sizes orders) (light : sum_to n (λ v. get_or G.costs v 0) ≤ most_cost) where
@@ -225,49 +235,49 @@ pub list_fits : (r m size x : ℕ) {s : ℕ} → s ≡ size → size ≤ m → s
 list_fits r m size x e l h = omega (arith, suc-mul r m)
 
 -- a round that was kept, and one that was not
-pub joined_some : {G : Graph} {k bound r : ℕ} {rows rows' : List ℕ} {x : ℕ} → JoinedRow G k bound r rows rows' x → (x ≡ 0 → ⊥)
+pub joined_some : {G : Graph} {k bound r : ℕ} {rows rows' : List ℕ} {x : ℕ} → JoinedRow G k bound r rows rows' (Some x)
     → (rows' ≡ put rows (r * vertices G + vertices G) (next_row_of (rows_in rows (vertices G) r) (round_of G bound (rows_in rows (vertices G) r)))) × (x ≡ clusters (next_row_of (rows_in rows (vertices G) r) (round_of G bound (rows_in rows (vertices G) r))))
-joined_some {G} {k} {bound} {r} {rows} {rows'} {x} D z =
-    by (kept G k bound (rows_in rows (vertices G) r) (round_of G bound (rows_in rows (vertices G) r))) (λ t. (rw t at D.rows_are, rw t at D.answer_is)) (λ t. let a : x ≡ 0 = rw t at D.answer_is in absurd (z a))
+joined_some {G} {k} {bound} {r} {rows} {rows'} {x} D =
+    by (kept G k bound (rows_in rows (vertices G) r) (round_of G bound (rows_in rows (vertices G) r)))
+    (λ t. let s : Some x ≡ Some (clusters (next_row_of (rows_in rows (vertices G) r) (round_of G bound (rows_in rows (vertices G) r)))) = rw t at D.answer_is in (rw t at D.rows_are, cc s))
+    (λ t. let s : Some x ≡ None = rw t at D.answer_is in absurd (cc s))
 
-pub joined_none : {G : Graph} {k bound r g : ℕ} {rows rows' : List ℕ} {x : ℕ} → Proper G → RoundReady G (rows_in rows (vertices G) r) g → JoinedRow G k bound r rows rows' x → x ≡ 0 → rows' ≡ rows
-joined_none {G} {k} {bound} {r} {g} {rows} {rows'} {x} P R D z =
-    let next = next_row_of (rows_in rows (vertices G) r) (round_of G bound (rows_in rows (vertices G) r)) in
-    let some = below_clusters next 0 (omega (arith, length_next (rows_in rows (vertices G) r) (mate_of (round_of G bound (rows_in rows (vertices G) r))), R.row_of.whole, P.some)) in
-    by (kept G k bound (rows_in rows (vertices G) r) (round_of G bound (rows_in rows (vertices G) r))) (λ t. let a : x ≡ clusters next = rw t at D.answer_is in absurd (omega arith)) (λ t. rw t at D.rows_are)
+pub joined_none : {G : Graph} {k bound r : ℕ} {rows rows' : List ℕ} → JoinedRow G k bound r rows rows' None → rows' ≡ rows
+joined_none {G} {k} {bound} {r} {rows} {rows'} D =
+    by (kept G k bound (rows_in rows (vertices G) r) (round_of G bound (rows_in rows (vertices G) r)))
+    (λ t. let s : None ≡ Some (clusters (next_row_of (rows_in rows (vertices G) r) (round_of G bound (rows_in rows (vertices G) r)))) = rw t at D.answer_is in absurd (cc s))
+    (λ t. rw t at D.rows_are)
 
 -- a whole step: nothing was kept, and all is as it was; or what is carried was handed on
 module _ {G : Graph} {rows : List ℕ} {r g : ℕ} {froms tos widths sizes orders weights : List ℕ} (R : RoundReady G (rows_in rows (vertices G) r) g) (S : Layer G (rows_in rows (vertices G) r))
     (C : Carrying G rows r g froms tos widths sizes orders weights) (small : g ≤ vertices G) (lr : r < 8) (M : RowsRoom G rows froms tos widths sizes orders)
-    {k bound : ℕ} {rows' map : List ℕ} {x : ℕ} (K : JoinsRow G k bound r rows rows' map x) where
-  pub step_none : {head next levels : List ℕ} → x ≡ 0 → LinkedAt (edges G) r froms tos sizes head next
-      → Steps G k bound r rows rows' froms tos widths sizes orders weights head next levels 0 × RowsRoom G rows' froms tos widths sizes orders
-  step_none z L =
-      let D : JoinedRow G k bound r rows rows' 0 = rw z at K.joined in
-      let e = joined_none R.proper R D refl in
-      (record { joined = D; none = λ _. rw e C.carried; some = λ n. absurd (n refl); links_stay = λ _. L; links_next = λ n. absurd (n refl); levels_next = λ n. absurd (n refl) }, rw e M)
+    {k bound : ℕ} {rows' map : List ℕ} where
+  pub step_none : {head next levels : List ℕ} → JoinsRow G k bound r rows rows' map None → LinkedAt (edges G) r froms tos sizes head next
+      → Steps G k bound r rows rows' froms tos widths sizes orders weights head next levels None × RowsRoom G rows' froms tos widths sizes orders
+  step_none K L =
+      let e = joined_none K.joined in
+      (record { joined = K.joined; none = λ _. rw e C.carried; some = λ h q. absurd (cc q); links_stay = λ _. L; links_next = λ h q. absurd (cc q); levels_next = λ h q. absurd (cc q) }, rw e M)
 
-  module _ (n : x ≡ 0 → ⊥) (light : sum_to (vertices G) (λ v. get_or G.costs v 0) ≤ most_cost) where
-    pub step_asks : (next : List ℕ) → length next ≡ 1024
-        → (Maps map g x × (x ≤ vertices G) × (length next ≡ 1024)) × HandsOn (vertices G) (edges G) r g froms tos widths sizes orders weights
-    step_asks next long =
-        let q = (joined_some K.joined n).1 in
-        rw q ((maps R S C small bound R.proper (K.renamed n), maps_few R S C small bound R.proper, long), hands_on R S C small R.proper lr M light)
+  module _ {x : ℕ} (K : JoinsRow G k bound r rows rows' map (Some x)) (light : sum_to (vertices G) (λ v. get_or G.costs v 0) ≤ most_cost) where
+    pub step_asks : Maps map g x × (x ≤ vertices G) × HandsOn (vertices G) (edges G) r g froms tos widths sizes orders weights
+    step_asks = let q = (joined_some K.joined).1 in rw q (maps R S C small bound R.proper (K.renamed x refl), maps_few R S C small bound R.proper, hands_on R S C small R.proper lr M light)
 
     pub step_some : {froms' tos' widths' sizes' orders' weights' levels' head next : List ℕ}
         → HandedOn map (vertices G) (edges G) r g x froms tos widths sizes orders weights froms' tos' widths' sizes' orders' weights' levels'
         → LinkedAt (edges G) (r + 1) froms' tos' sizes' head next
-        → Steps G k bound r rows rows' froms' tos' widths' sizes' orders' weights' head next levels' x × RowsRoom G rows' froms' tos' widths' sizes' orders'
-    step_some H L =
-        let (e, q) = joined_some K.joined n in
-        let O = rw q at H in (
+        → Steps G k bound r rows rows' froms' tos' widths' sizes' orders' weights' head next levels' (Some x) × RowsRoom G rows' froms' tos' widths' sizes' orders'
+    step_some {froms'} {tos'} {widths'} {sizes'} {orders'} {weights'} {levels'} H L =
+        let (e, q) = joined_some K.joined in
+        let O = rw q at H in
+        let some : Carrying G rows' (r + 1) x froms' tos' widths' sizes' orders' weights' = rw q (steps_some R S C small bound R.proper k lr M.row_room e (K.renamed x refl) light M O) in
+        let levels : LevelsAt (edges G) (r + 1) x froms' tos' sizes' levels' = rw q (steps_levels R S C small bound R.proper k lr M.row_room e (K.renamed x refl) light M O) in (
           record {
             joined = K.joined;
-            none = λ z. absurd (n z);
-            some = λ _. rw q (steps_some R S C small bound R.proper k lr M.row_room e (K.renamed n) light M O);
-            links_stay = λ z. absurd (n z);
-            links_next = λ _. L;
-            levels_next = λ _. rw q (steps_levels R S C small bound R.proper k lr M.row_room e (K.renamed n) light M O);
+            none = λ z. absurd (cc z);
+            some = λ h z. let y : x ≡ h = cc z in rw y at some;
+            links_stay = λ z. absurd (cc z);
+            links_next = λ h z. L;
+            levels_next = λ h z. let y : x ≡ h = cc z in rw y at levels;
           },
-          steps_room R S C small bound R.proper k lr M.row_room e (K.renamed n) light M O,
+          steps_room R S C small bound R.proper k lr M.row_room e (K.renamed x refl) light M O,
         )

@@ -1,6 +1,6 @@
 -- What the calls that build the hierarchy leave.
-use Rattle.std.specs.Prelude.{ℕ, suc, ◌+◌, ◌*◌, ◌≤◌, ◌<◌, ◌≡◌, List, length, get_or, set, take}
-use Rattle.folds.specs.Fold.{pick, when, sum_to, over, put, part, zeros, most_cost}
+use Rattle.std.specs.Prelude.{ℕ, suc, ◌+◌, ◌*◌, ◌≤◌, ◌<◌, ◌≡◌, List, length, get_or, set, take, Option, Some, None}
+use Rattle.folds.specs.Fold.{pick, sum_to, over, put, part, zeros, most_cost}
 use Rattle.graph.specs.Walk.{Acyclic}
 use Rattle.graph.specs.Graph.{Graph, vertices, edges, identity, joining, seen, Edge, part_cost, Proper}
 use Rattle.graph.specs.Rows.{clusters, rows_in}
@@ -22,17 +22,17 @@ pub record Carries (G : Graph) (row : List ℕ) (g : ℕ) (weights froms tos wid
   pub costs : (c : ℕ) → get_or weights c 0 ≡ part_cost G.costs row c
   pub ordered : InOrder (seen G row) g order
 
--- a round on row r: where it is kept, its row stands after row r, and it answers how many clusters that has; else 0, and all is as it was
-pub record JoinedRow (G : Graph) (k bound r : ℕ) (rows rows' : List ℕ) (answer : ℕ) : Type 0 where
+-- a round on row r: where it is kept, its row stands after row r, and it answers how many clusters that has; else none, and all is as it was
+pub record JoinedRow (G : Graph) (k bound r : ℕ) (rows rows' : List ℕ) (answer : Option ℕ) : Type 0 where
   pub rows_are : rows' ≡ pick (kept G k bound (rows_in rows (vertices G) r) (round_of G bound (rows_in rows (vertices G) r)))
       (put rows (r * vertices G + vertices G) (next_row_of (rows_in rows (vertices G) r) (round_of G bound (rows_in rows (vertices G) r)))) rows
-  pub answer_is : answer ≡ when (kept G k bound (rows_in rows (vertices G) r) (round_of G bound (rows_in rows (vertices G) r)))
-      (clusters (next_row_of (rows_in rows (vertices G) r) (round_of G bound (rows_in rows (vertices G) r))))
+  pub answer_is : answer ≡ pick (kept G k bound (rows_in rows (vertices G) r) (round_of G bound (rows_in rows (vertices G) r)))
+      (Some (clusters (next_row_of (rows_in rows (vertices G) r) (round_of G bound (rows_in rows (vertices G) r))))) None
 
 -- where the round was kept, map has the new number of each cluster
-pub record JoinsRow (G : Graph) (k bound r : ℕ) (rows rows' map : List ℕ) (answer : ℕ) : Type 0 where
+pub record JoinsRow (G : Graph) (k bound r : ℕ) (rows rows' map : List ℕ) (answer : Option ℕ) : Type 0 where
   pub joined : JoinedRow G k bound r rows rows' answer
-  pub renamed : (answer ≡ 0 → ⊥) → Renamed (rows_in rows (vertices G) r) (next_row_of (rows_in rows (vertices G) r) (round_of G bound (rows_in rows (vertices G) r))) map
+  pub renamed : (h : ℕ) → answer ≡ Some h → Renamed (rows_in rows (vertices G) r) (next_row_of (rows_in rows (vertices G) r) (round_of G bound (rows_in rows (vertices G) r))) map
 
 -- the lists and the topological orders of rows 0 to top, each end to end
 pub record Carried (G : Graph) (rows : ℕ → List ℕ) (top : ℕ) (froms tos widths sizes orders : List ℕ) : Type 0 where
@@ -62,13 +62,13 @@ pub record RowsRoom (G : Graph) (rows froms tos widths sizes orders : List ℕ) 
 
 -- a round on row r, with what is then carried: as it was, or up to row r + 1; the links are those of the last row, and so are the levels where a
 -- round was kept
-pub record Steps (G : Graph) (k bound r : ℕ) (rows rows' froms tos widths sizes orders weights head next levels : List ℕ) (answer : ℕ) : Type 0 where
+pub record Steps (G : Graph) (k bound r : ℕ) (rows rows' froms tos widths sizes orders weights head next levels : List ℕ) (answer : Option ℕ) : Type 0 where
   pub joined : JoinedRow G k bound r rows rows' answer
-  pub none : answer ≡ 0 → Carried G (rows_in rows' (vertices G)) r froms tos widths sizes orders
-  pub some : (answer ≡ 0 → ⊥) → Carrying G rows' (r + 1) answer froms tos widths sizes orders weights
-  pub links_stay : answer ≡ 0 → LinkedAt (edges G) r froms tos sizes head next
-  pub links_next : (answer ≡ 0 → ⊥) → LinkedAt (edges G) (r + 1) froms tos sizes head next
-  pub levels_next : (answer ≡ 0 → ⊥) → LevelsAt (edges G) (r + 1) answer froms tos sizes levels
+  pub none : answer ≡ None → Carried G (rows_in rows' (vertices G)) r froms tos widths sizes orders
+  pub some : (h : ℕ) → answer ≡ Some h → Carrying G rows' (r + 1) h froms tos widths sizes orders weights
+  pub links_stay : answer ≡ None → LinkedAt (edges G) r froms tos sizes head next
+  pub links_next : (h : ℕ) → answer ≡ Some h → LinkedAt (edges G) (r + 1) froms tos sizes head next
+  pub levels_next : (h : ℕ) → answer ≡ Some h → LevelsAt (edges G) (r + 1) h froms tos sizes levels
 
 -- row r has `size` edges, and there is room for those of row r + 1 and its order
 pub record HandsOn (n m r g : ℕ) (froms tos widths sizes orders weights : List ℕ) : Type 0 where

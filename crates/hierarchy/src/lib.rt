@@ -1,335 +1,277 @@
 // The rows of the hierarchy: rounds kept and dropped, each row by its own round.
 #![tactic(auto)]
 
-ghost use Rattle.std.specs.Prelude.{◌≡◌, ◌+◌, ◌*◌, ◌<◌, ◌≤◌, length, take};
+ghost use Rattle.std.specs.Prelude.{◌≡◌, ◌+◌, ◌*◌, ◌<◌, ◌≤◌, length, get_or, take};
 ghost use Rattle.graph.specs.Rows.{Layer, rows_in};
-ghost use Rattle.folds.specs.Fold.{over, zeros};
-ghost use Rattle.graph.specs.Graph.{graph_of, identity, arcs, joining};
-ghost use Rattle.graph.specs.Links.{Linked, leave};
+ghost use Rattle.folds.specs.Fold.{sum_to, over, part, zeros, most_cost};
+ghost use Rattle.graph.specs.Graph.{identity, arcs, joining, Inside};
+ghost use Rattle.graph.specs.Lent.{graph_in, arcs_in};
+ghost use Rattle.graph.specs.Links.{Linked, Ended, leave};
 ghost use Rattle.graph.specs.Coarse.{LinkedAt};
 ghost use Rattle.topology.specs.Order.{order_of};
 ghost use Rattle.topology.specs.Level.{levels_of};
 ghost use Rattle.matching.specs.Promises.{RoundReady};
-ghost use Rattle.row_lists.specs.Carry.{Maps};
 ghost use Rattle.hierarchy.specs.Promises.{Carries, JoinsRow, Carried, Carrying, LevelsAt, RowsRoom, Steps, HandsOn, HandedOn, Buildable, Built};
 
-// The front of an array into a row.
-fn copy_row(src: &[u16; 512], row: &mut [u16])
-    requires { (length src.now ≡ 512) × (length row.old ≤ 512) }
-    ensures { row.new ≡ take (length row.old) src.now }
-{
-    let mut i: usize = 0;
-    while i < row.len() {
-        row[i] = src[i];
-        i += 1;
-    }
+use graph::{EdgeLinks, EdgeLists, LinkTable, Lists, Problem, RowStore};
+use matching_scan::{Pairing, Scan};
+use row_lists::Renaming;
+
+// What rows are built by: a problem of at most 16 parts, whose costs are not too many.
+#[derive(Clone, Copy)]
+struct Plan<'a> {
+    problem: Problem<'a>,
+    ghost few: { problem.k ≤ 16 },
+    ghost light: { sum_to (length problem.lists.costs.now) (λ v. get_or problem.lists.costs.now v 0) ≤ most_cost },
 }
 
-// Row 0: each vertex its own cluster.
-fn first_row(row: &mut [u16])
-    requires { length row.old ≤ 512 }
-    ensures { row.new ≡ identity (length row.old) }
-{
-    let mut v: usize = 0;
-    while v < row.len() {
-        row[v] = v as u16;
-        v += 1;
-    }
+// Of the last row alone: the links of its edges, the levels of its clusters, and their costs. Each call promises that the links stay the caller's table.
+// stays: that promise is a clause of four functions: it compares what a call is given with what it leaves, and a type's fact speaks of one value.
+#[derive(Drop)]
+struct Last<'a> {
+    links: &'a mut LinkTable,
+    levels: &'a mut [u16; 512],
+    weights: [u32; 512],
 }
 
-// A round on row r, whose row follows it where the round is kept. Answers its clusters, or 0 where no round was kept.
+// A round on row r, whose row follows it where the round is kept. Answers how many clusters that has.
 fn join_row(
-    costs: &[u16],
-    starts: &[u16],
-    ends: &[u16],
-    widths: &[u16],
-    k: usize,
-    bound: u32,
-    weights: &[u32; 512],
-    from: &[u16],
-    to: &[u16],
-    width: &[u32],
-    head: &[u16; 513],
-    next: &[u16; 1024],
+    plan: Plan<'_>,
+    scan: Scan<'_, '_>,
     order: &[u16],
-    levels: &[u16; 512],
     map: &mut [u16; 512],
     rows: &mut [u16],
     r: usize,
     g: usize,
-) -> usize
-    requires round_ready { RoundReady (graph_of costs.now starts.now ends.now widths.now) (rows_in rows.old (length costs.now) r) g }
-    requires carries { Carries (graph_of costs.now starts.now ends.now widths.now) (rows_in rows.old (length costs.now) r) g weights.now from.now to.now width.now order.now }
-    requires r_bound { (r < 8) × (k ≤ 16) × Linked (leave (joining from.now to.now)) (length from.now) head.now next.now × (levels.now ≡ over (levels_of (joining from.now to.now) g) (zeros 512)) }
-    requires costs_in_bounds { 9 * length costs.now ≤ length rows.old }
-    ensures { JoinsRow (graph_of costs.now starts.now ends.now widths.now) k bound r rows.old rows.new map.new result }
+) -> Option<usize>
+    requires round_ready { RoundReady (graph_in plan.problem.lists) (rows_in rows.old (length plan.problem.lists.costs.now) r) g }
+    requires carries { Carries (graph_in plan.problem.lists) (rows_in rows.old (length plan.problem.lists.costs.now) r) g scan.costs.now scan.links.edges.starts.now scan.links.edges.ends.now scan.widths.now order.now }
+    requires r_bound { (r < 8) × (scan.levels.now ≡ over (levels_of (arcs_in scan.links.edges) g) (zeros 512)) }
+    requires costs_in_bounds { 9 * length plan.problem.lists.costs.now ≤ length rows.old }
+    ensures { JoinsRow (graph_in plan.entry.problem.lists) plan.entry.problem.k scan.entry.bound r rows.old rows.new map.new result }
 {
-    if g <= 2 * k {
-        return 0;
+    if g <= 2 * plan.problem.k {
+        return None;
     }
-    let n = costs.len();
+    let n = plan.problem.lists.costs.len();
     let a = r * n;
     let b = a + n;
-    let e = b + n;
-    let mut mates = [0; 512];
-    let pairs = matching::round(
-        weights, from, to, width, head, next, order, levels, g, bound, &mut mates,
-    );
+    let mut pairing = Pairing {
+        mates: [0; 512],
+        tos: [0; 512],
+        blocked: [0; 512],
+    };
+    let pairs = matching::round(scan, order, g, &mut pairing);
     if 10 * pairs < g {
-        return 0;
+        return None;
     }
     let mut out = [0; 512];
-    let h = contraction::next_row(&rows[a..b], &mates, map, &mut out);
-    copy_row(&out, &mut rows[b..e]);
-    h
-}
-
-// The lists, the costs, the order, the links and the levels of row r + 1 after those of row r: map gives each of the g clusters its new number, one of h.
-fn hand_on(
-    map: &[u16; 512],
-    n: usize,
-    m: usize,
-    r: usize,
-    g: usize,
-    h: usize,
-    froms: &mut [u16],
-    tos: &mut [u16],
-    wides: &mut [u32],
-    sizes: &mut [u16; 9],
-    orders: &mut [u16],
-    weights: &mut [u32; 512],
-    head: &mut [u16; 513],
-    next: &mut [u16; 1024],
-    levels: &mut [u16; 512],
-)
-    requires maps { Maps map.now g h × (h ≤ n) × (length next.old ≡ 1024) }
-    requires hands_on { HandsOn n m r g froms.old tos.old wides.old sizes.old orders.old weights.old }
-    ensures handed_on { HandedOn map.now n m r g h froms.old tos.old wides.old sizes.old orders.old weights.old froms.new tos.new wides.new sizes.new orders.new weights.new levels.new }
-    ensures linked_at { LinkedAt m (r + 1) froms.new tos.new sizes.new head.new next.new }
-{
-    let size = folds::wide(sizes[r]);
-    let a = r * m;
-    let b = a + m;
-    let count = row_lists::carry(map, g, h, a, size, b, froms, tos, wides);
-    sizes[r + 1] = count as u16;
-    row_lists::merge(map, g, weights);
-    let e = b + count;
-    let c = r * n + n;
-    let from = &froms[b..e];
-    let to = &tos[b..e];
-    graph::link_leaving(from, to, head, next);
-    ordering::order_by(from, to, head, next, h, &mut orders[c..c + n], levels);
+    let h = contraction::next_row(&rows[a..b], &pairing.mates, map, &mut out);
+    row_lists::copy(&out[..n], rows, b);
+    Some(h)
 }
 
 // The round on row r, by what is carried of it.
-fn join_at(
-    costs: &[u16],
-    starts: &[u16],
-    ends: &[u16],
-    widths: &[u16],
-    k: usize,
-    bound: u32,
-    rows: &mut [u16],
-    froms: &[u16],
-    tos: &[u16],
-    wides: &[u32],
-    sizes: &[u16; 9],
-    orders: &[u16],
-    weights: &[u32; 512],
-    head: &[u16; 513],
-    next: &[u16; 1024],
-    levels: &[u16; 512],
+// stays: `RoundReady` with `Layer`, `Carrying`, `LinkedAt` with `LevelsAt` are clauses, here and below: they speak of r and g beside rows, store or last, which change one by one.
+// stays: `RowsRoom` is a clause, here and below: rows and store are lent apart, and a type of both would be built for it alone.
+fn join_at<'x>(
+    plan: Plan<'_>,
+    store: &'x RowStore<'_>,
+    last: &'x Last<'_>,
     map: &mut [u16; 512],
+    rows: &mut [u16],
     r: usize,
     g: usize,
-) -> usize
-    requires round_ready { RoundReady (graph_of costs.now starts.now ends.now widths.now) (rows_in rows.old (length costs.now) r) g × Layer (graph_of costs.now starts.now ends.now widths.now) (rows_in rows.old (length costs.now) r) }
-    requires carrying { Carrying (graph_of costs.now starts.now ends.now widths.now) rows.old r g froms.now tos.now wides.now sizes.now orders.now weights.now }
-    requires rows_room { RowsRoom (graph_of costs.now starts.now ends.now widths.now) rows.old froms.now tos.now wides.now sizes.now orders.now }
-    requires r_bound { (r < 8) × (k ≤ 16) × (g ≤ length costs.now) × LinkedAt (length starts.now) r froms.now tos.now sizes.now head.now next.now × LevelsAt (length starts.now) r g froms.now tos.now sizes.now levels.now }
-    ensures { JoinsRow (graph_of costs.now starts.now ends.now widths.now) k bound r rows.old rows.new map.new result }
+) -> Option<usize>
+    requires round_ready { RoundReady (graph_in plan.problem.lists) (rows_in rows.old (length plan.problem.lists.costs.now) r) g × Layer (graph_in plan.problem.lists) (rows_in rows.old (length plan.problem.lists.costs.now) r) }
+    requires carrying { Carrying (graph_in plan.problem.lists) rows.old r g store.now.froms.now store.now.tos.now store.now.wides.now store.now.sizes store.now.orders last.now.weights }
+    requires rows_room { RowsRoom (graph_in plan.problem.lists) rows.old store.now.froms.now store.now.tos.now store.now.wides.now store.now.sizes store.now.orders }
+    requires r_bound { (r < 8) × (g ≤ length plan.problem.lists.costs.now) × LinkedAt (length plan.problem.lists.starts.now) r store.now.froms.now store.now.tos.now store.now.sizes last.now.links.now.head last.now.links.now.next × LevelsAt (length plan.problem.lists.starts.now) r g store.now.froms.now store.now.tos.now store.now.sizes last.now.levels.now }
+    ensures { JoinsRow (graph_in plan.entry.problem.lists) plan.entry.problem.k plan.entry.problem.bound r rows.old rows.new map.new result }
 {
-    let n = costs.len();
-    let size = folds::wide(sizes[r]);
+    let n = plan.problem.lists.costs.len();
+    let size = usize::from(store.sizes[r]);
     let a = r * n;
     let b = a + n;
-    let c = r * starts.len();
+    let c = r * plan.problem.lists.starts.len();
     let d = c + size;
-    join_row(
-        costs,
-        starts,
-        ends,
-        widths,
-        k,
-        bound,
-        weights,
-        &froms[c..d],
-        &tos[c..d],
-        &wides[c..d],
-        head,
-        next,
-        &orders[a..b],
-        levels,
-        map,
-        rows,
-        r,
-        g,
-    )
+    let edges = EdgeLists {
+        starts: &store.froms[c..d],
+        ends: &store.tos[c..d],
+    };
+    let links = EdgeLinks {
+        edges,
+        table: last.links,
+    };
+    let scan = Scan {
+        links,
+        widths: &store.wides[c..d],
+        levels: last.levels,
+        costs: &last.weights,
+        bound: plan.problem.bound,
+    };
+    join_row(plan, scan, &store.orders[a..b], map, rows, r, g)
+}
+
+// The links, the order and the levels of h clusters, by the edges between them, `count` of the lists from b on.
+// stays: froms and tos are lent as `&mut` and only read, for the check has no rule for fields lent as `&` beside the orders.
+fn order_row(
+    froms: &mut [u16],
+    tos: &mut [u16],
+    b: usize,
+    count: usize,
+    h: usize,
+    order: &mut [u16],
+    last: &mut Last<'_>,
+)
+    requires ended { Ended (part froms.old b count) (part tos.old b count) }
+    requires inside { Inside (joining (part froms.old b count) (part tos.old b count)) h }
+    requires bounds { (b + count ≤ length froms.old) × (b + count ≤ length tos.old) × (h ≤ 512) × (h ≤ length order.old) }
+    ensures stay { (froms.new ≡ froms.old) × (tos.new ≡ tos.old) × (last.new.weights ≡ last.old.weights) }
+    ensures linked { Linked (leave (joining (part froms.old b count) (part tos.old b count))) (length (part froms.old b count)) last.new.links.now.head last.new.links.now.next }
+    ensures ordered { order.new ≡ over (order_of (joining (part froms.old b count) (part tos.old b count)) h) order.old }
+    ensures levels { length (order_of (joining (part froms.old b count) (part tos.old b count)) h) ≡ h → last.new.levels.now ≡ over (levels_of (joining (part froms.old b count) (part tos.old b count)) h) (zeros 512) }
+    ensures same_links { last.new.links.ghost_name ≡ last.old.links.ghost_name }
+{
+    let e = b + count;
+    let edges = EdgeLists {
+        starts: &froms[b..e],
+        ends: &tos[b..e],
+    };
+    graph::link_leaving(edges, last.links);
+    let links = EdgeLinks {
+        edges,
+        table: last.links,
+    };
+    ordering::order_by(links, h, order, last.levels);
+}
+
+// The lists, the costs, the order, the links and the levels of row r + 1 after those of row r, whose clusters get new numbers.
+fn hand_on(
+    names: Renaming<'_>,
+    n: usize,
+    m: usize,
+    r: usize,
+    store: &mut RowStore<'_>,
+    last: &mut Last<'_>,
+)
+    requires names_few { names.after ≤ n }
+    requires hands_on { HandsOn n m r names.before store.old.froms.now store.old.tos.now store.old.wides.now store.old.sizes store.old.orders last.old.weights }
+    ensures handed_on { HandedOn names.entry.map.now n m r names.entry.before names.entry.after store.old.froms.now store.old.tos.now store.old.wides.now store.old.sizes store.old.orders last.old.weights store.new.froms.now store.new.tos.now store.new.wides.now store.new.sizes store.new.orders last.new.weights last.new.levels.now }
+    ensures linked_at { LinkedAt m (r + 1) store.new.froms.now store.new.tos.now store.new.sizes last.new.links.now.head last.new.links.now.next }
+    ensures same_links { last.new.links.ghost_name ≡ last.old.links.ghost_name }
+{
+    let size = usize::from(store.sizes[r]);
+    let a = r * m;
+    let b = a + m;
+    let count = row_lists::carry(names, a, size, b, store);
+    store.sizes[r + 1] = count as u16;
+    row_lists::merge(names, &mut last.weights);
+    let c = r * n + n;
+    order_row(
+        store.froms,
+        store.tos,
+        b,
+        count,
+        names.after,
+        &mut store.orders[c..c + n],
+        last,
+    );
 }
 
 // A round on row r; where it is kept, what is carried of row r + 1 stands after what is carried of row r.
-// Answers the clusters of row r + 1, or 0 where no round was kept.
+// Answers how many clusters row r + 1 has.
 fn step(
-    costs: &[u16],
-    starts: &[u16],
-    ends: &[u16],
-    widths: &[u16],
-    k: usize,
-    bound: u32,
+    plan: Plan<'_>,
     rows: &mut [u16],
-    froms: &mut [u16],
-    tos: &mut [u16],
-    wides: &mut [u32],
-    sizes: &mut [u16; 9],
-    orders: &mut [u16],
-    weights: &mut [u32; 512],
-    head: &mut [u16; 513],
-    next: &mut [u16; 1024],
-    levels: &mut [u16; 512],
+    store: &mut RowStore<'_>,
+    last: &mut Last<'_>,
     r: usize,
     g: usize,
-) -> usize
-    requires round_ready { RoundReady (graph_of costs.now starts.now ends.now widths.now) (rows_in rows.old (length costs.now) r) g × Layer (graph_of costs.now starts.now ends.now widths.now) (rows_in rows.old (length costs.now) r) }
-    requires carrying { Carrying (graph_of costs.now starts.now ends.now widths.now) rows.old r g froms.old tos.old wides.old sizes.old orders.old weights.old }
-    requires rows_room { RowsRoom (graph_of costs.now starts.now ends.now widths.now) rows.old froms.old tos.old wides.old sizes.old orders.old }
-    requires r_bound { (r < 8) × (k ≤ 16) × (g ≤ length costs.now) × LinkedAt (length starts.now) r froms.old tos.old sizes.old head.old next.old × LevelsAt (length starts.now) r g froms.old tos.old sizes.old levels.old }
-    ensures steps { Steps (graph_of costs.now starts.now ends.now widths.now) k bound r rows.old rows.new froms.new tos.new wides.new sizes.new orders.new weights.new head.new next.new levels.new result }
-    ensures rows_room_2 { RowsRoom (graph_of costs.now starts.now ends.now widths.now) rows.new froms.new tos.new wides.new sizes.new orders.new }
+) -> Option<usize>
+    requires round_ready { RoundReady (graph_in plan.problem.lists) (rows_in rows.old (length plan.problem.lists.costs.now) r) g × Layer (graph_in plan.problem.lists) (rows_in rows.old (length plan.problem.lists.costs.now) r) }
+    requires carrying { Carrying (graph_in plan.problem.lists) rows.old r g store.old.froms.now store.old.tos.now store.old.wides.now store.old.sizes store.old.orders last.old.weights }
+    requires rows_room { RowsRoom (graph_in plan.problem.lists) rows.old store.old.froms.now store.old.tos.now store.old.wides.now store.old.sizes store.old.orders }
+    requires r_bound { (r < 8) × (g ≤ length plan.problem.lists.costs.now) × LinkedAt (length plan.problem.lists.starts.now) r store.old.froms.now store.old.tos.now store.old.sizes last.old.links.now.head last.old.links.now.next × LevelsAt (length plan.problem.lists.starts.now) r g store.old.froms.now store.old.tos.now store.old.sizes last.old.levels.now }
+    ensures steps { Steps (graph_in plan.entry.problem.lists) plan.entry.problem.k plan.entry.problem.bound r rows.old rows.new store.new.froms.now store.new.tos.now store.new.wides.now store.new.sizes store.new.orders last.new.weights last.new.links.now.head last.new.links.now.next last.new.levels.now result }
+    ensures rows_room_2 { RowsRoom (graph_in plan.entry.problem.lists) rows.new store.new.froms.now store.new.tos.now store.new.wides.now store.new.sizes store.new.orders }
+    ensures same_links { last.new.links.ghost_name ≡ last.old.links.ghost_name }
 {
     let mut map = [0; 512];
-    let h = join_at(
-        costs, starts, ends, widths, k, bound, rows, froms, tos, wides, sizes, orders, weights,
-        head, next, levels, &mut map, r, g,
-    );
-    if h == 0 {
-        return 0;
-    }
+    let h = join_at(plan, store, last, &mut map, rows, r, g)?;
+    let names = Renaming {
+        map: &map,
+        before: g,
+        after: h,
+    };
     hand_on(
-        &map,
-        costs.len(),
-        starts.len(),
+        names,
+        plan.problem.lists.costs.len(),
+        plan.problem.lists.starts.len(),
         r,
-        g,
-        h,
-        froms,
-        tos,
-        wides,
-        sizes,
-        orders,
-        weights,
-        head,
-        next,
-        levels,
+        store,
+        last,
     );
-    h
+    Some(h)
 }
 
 // The rounds above row 0, which stands in front, with what is carried of it. Answers how many were kept; the links are those of the last row.
 fn join_rows(
-    costs: &[u16],
-    starts: &[u16],
-    ends: &[u16],
-    widths: &[u16],
-    k: usize,
-    bound: u32,
+    plan: Plan<'_>,
     rows: &mut [u16],
-    froms: &mut [u16],
-    tos: &mut [u16],
-    wides: &mut [u32],
-    sizes: &mut [u16; 9],
-    orders: &mut [u16],
-    head: &mut [u16; 513],
-    next: &mut [u16; 1024],
-    levels: &mut [u16; 512],
+    store: &mut RowStore<'_>,
+    last: &mut Last<'_>,
 ) -> usize
-    requires buildable { Buildable (graph_of costs.now starts.now ends.now widths.now) k }
-    requires rows_room { RowsRoom (graph_of costs.now starts.now ends.now widths.now) rows.old froms.old tos.old wides.old sizes.old orders.old }
-    requires costs_value { rows_in rows.old (length costs.now) 0 ≡ identity (length costs.now) }
-    requires carried { Carried (graph_of costs.now starts.now ends.now widths.now) (rows_in rows.old (length costs.now)) 0 froms.old tos.old wides.old sizes.old orders.old }
-    requires linked_at { LinkedAt (length starts.now) 0 froms.old tos.old sizes.old head.old next.old × LevelsAt (length starts.now) 0 (length costs.now) froms.old tos.old sizes.old levels.old }
-    ensures built { Built (graph_of costs.now starts.now ends.now widths.now) k bound rows.old rows.new result }
-    ensures carried_2 { Carried (graph_of costs.now starts.now ends.now widths.now) (rows_in rows.new (length costs.now)) result froms.new tos.new wides.new sizes.new orders.new }
-    ensures linked_at_2 { LinkedAt (length starts.now) result froms.new tos.new sizes.new head.new next.new }
+    requires buildable { Buildable (graph_in plan.problem.lists) plan.problem.k }
+    requires rows_room { RowsRoom (graph_in plan.problem.lists) rows.old store.old.froms.now store.old.tos.now store.old.wides.now store.old.sizes store.old.orders }
+    requires costs_value { rows_in rows.old (length plan.problem.lists.costs.now) 0 ≡ identity (length plan.problem.lists.costs.now) }
+    requires carrying { Carrying (graph_in plan.problem.lists) rows.old 0 (length plan.problem.lists.costs.now) store.old.froms.now store.old.tos.now store.old.wides.now store.old.sizes store.old.orders last.old.weights }
+    requires linked_at { LinkedAt (length plan.problem.lists.starts.now) 0 store.old.froms.now store.old.tos.now store.old.sizes last.old.links.now.head last.old.links.now.next × LevelsAt (length plan.problem.lists.starts.now) 0 (length plan.problem.lists.costs.now) store.old.froms.now store.old.tos.now store.old.sizes last.old.levels.now }
+    ensures built { Built (graph_in plan.entry.problem.lists) plan.entry.problem.k plan.entry.problem.bound rows.old rows.new result }
+    ensures carried_2 { Carried (graph_in plan.entry.problem.lists) (rows_in rows.new (length plan.entry.problem.lists.costs.now)) result store.new.froms.now store.new.tos.now store.new.wides.now store.new.sizes store.new.orders }
+    ensures linked_at_2 { LinkedAt (length plan.entry.problem.lists.starts.now) result store.new.froms.now store.new.tos.now store.new.sizes last.new.links.now.head last.new.links.now.next }
+    ensures same_links { last.new.links.ghost_name ≡ last.old.links.ghost_name }
 {
-    let mut weights = [0; 512];
-    row_lists::weigh(costs, &mut weights);
-    let mut g = costs.len();
-    let mut r: usize = 0;
-    while r < 8 {
-        let h = step(
-            costs,
-            starts,
-            ends,
-            widths,
-            k,
-            bound,
-            rows,
-            froms,
-            tos,
-            wides,
-            sizes,
-            orders,
-            &mut weights,
-            head,
-            next,
-            levels,
-            r,
-            g,
-        );
-        if h == 0 {
+    let mut g = plan.problem.lists.costs.len();
+    for r in 0..8 {
+        let Some(h) = step(plan, rows, store, last, r, g) else {
             return r;
-        }
+        };
         g = h;
-        r += 1;
     }
-    r
+    8
 }
 
 // Builds the hierarchy, by the order of the vertices, their levels and the links of their edges: rows 0 to the rounds kept, whose number it answers, with the lists and
 // the order of each, and the links of the last. Entries past those rows are left alone.
-pub fn build(
-    costs: &[u16],
-    starts: &[u16],
-    ends: &[u16],
-    widths: &[u16],
-    k: usize,
-    bound: u32,
+pub fn build<'x>(
+    problem: Problem<'_>,
     order: &[u16; 512],
-    levels: &mut [u16; 512],
-    head: &mut [u16; 513],
-    next: &mut [u16; 1024],
+    levels: &'x mut [u16; 512],
+    links: &'x mut LinkTable,
     rows: &mut [u16],
-    froms: &mut [u16],
-    tos: &mut [u16],
-    wides: &mut [u32],
-    sizes: &mut [u16; 9],
-    orders: &mut [u16],
+    store: &mut RowStore<'_>,
 ) -> usize
-    requires buildable { Buildable (graph_of costs.now starts.now ends.now widths.now) k }
-    requires rows_room { RowsRoom (graph_of costs.now starts.now ends.now widths.now) rows.old froms.old tos.old wides.old sizes.old orders.old }
-    requires order_value { take (length costs.now) order.now ≡ order_of (arcs (identity (length costs.now)) starts.now ends.now) (length costs.now) }
-    requires order_len { (length order.now ≡ 512) × Linked (leave (joining starts.now ends.now)) (length starts.now) head.old next.old }
-    requires levels_value { levels.old ≡ over (levels_of (arcs (identity (length costs.now)) starts.now ends.now) (length costs.now)) (zeros 512) }
-    ensures built { Built (graph_of costs.now starts.now ends.now widths.now) k bound rows.old rows.new result }
-    ensures carried { Carried (graph_of costs.now starts.now ends.now widths.now) (rows_in rows.new (length costs.now)) result froms.new tos.new wides.new sizes.new orders.new }
-    ensures linked_at { LinkedAt (length starts.now) result froms.new tos.new sizes.new head.new next.new }
+    requires buildable { Buildable (graph_in problem.lists) problem.k }
+    requires rows_room { RowsRoom (graph_in problem.lists) rows.old store.old.froms.now store.old.tos.now store.old.wides.now store.old.sizes store.old.orders }
+    requires order_value { take (length problem.lists.costs.now) order.now ≡ order_of (arcs (identity (length problem.lists.costs.now)) problem.lists.starts.now problem.lists.ends.now) (length problem.lists.costs.now) }
+    requires linked { Linked (leave (joining problem.lists.starts.now problem.lists.ends.now)) (length problem.lists.starts.now) links.old.head links.old.next }
+    requires levels_value { levels.old ≡ over (levels_of (arcs (identity (length problem.lists.costs.now)) problem.lists.starts.now problem.lists.ends.now) (length problem.lists.costs.now)) (zeros 512) }
+    ensures built { Built (graph_in problem.entry.lists) problem.entry.k problem.entry.bound rows.old rows.new result }
+    ensures carried { Carried (graph_in problem.entry.lists) (rows_in rows.new (length problem.entry.lists.costs.now)) result store.new.froms.now store.new.tos.now store.new.wides.now store.new.sizes store.new.orders }
+    ensures linked_at { LinkedAt (length problem.entry.lists.starts.now) result store.new.froms.now store.new.tos.now store.new.sizes links.new.head links.new.next }
 {
-    let n = costs.len();
-    first_row(&mut rows[0..n]);
-    row_lists::copy(order, n, orders, 0);
-    row_lists::first(starts, ends, widths, froms, tos, wides, sizes);
-    join_rows(
-        costs, starts, ends, widths, k, bound, rows, froms, tos, wides, sizes, orders, head, next,
+    let lists = problem.lists;
+    let n = lists.costs.len();
+    graph::number_entries(&mut rows[0..n]);
+    row_lists::copy(&order[..n], &mut store.orders, 0);
+    row_lists::first(lists, store);
+    let mut last = Last {
+        links,
         levels,
-    )
+        weights: [0; 512],
+    };
+    row_lists::weigh(lists.costs, &mut last.weights);
+    let plan = Plan { problem };
+    join_rows(plan, rows, store, &mut last)
 }

@@ -3,158 +3,123 @@
 
 ghost use Rattle.std.specs.Prelude.{◌≡◌, ◌+◌, ◌<◌, ◌≤◌, length};
 ghost use Rattle.folds.specs.Fold.{zeros};
-ghost use Rattle.graph.specs.Graph.{arcs, Inside};
-ghost use Rattle.graph.specs.Links.{Linked, Joins, leave, Leaves};
-ghost use Rattle.graph.specs.Coarse.{Narrow};
+ghost use Rattle.graph.specs.Graph.{Inside};
+ghost use Rattle.graph.specs.Links.{Linked, leave, Leaves};
 ghost use Rattle.joined_edges.specs.Joining.{Widths, Written, Put};
+ghost use Rattle.joined_edges.specs.Lent.{arcs_in};
+
+mod edges;
+
+pub use edges::RowEdges;
+use edges::RowLinks;
+use graph::LinkTable;
+
+// Joined edges: the first `count` entries of each list.
+// stays: arrays of fixed size and a count, since there is no heap.
+#[derive(Clone, Copy)]
+pub struct Joined {
+    pub froms: [u16; 1024],
+    pub tos: [u16; 1024],
+    pub widths: [u32; 1024],
+    pub count: usize,
+}
+
+impl Joined {
+    // Lists an edge from u to b, with the sum of b, where that is not 0, and sets the sum to 0.
+    fn put(&mut self, u: usize, b: usize, sums: &mut [u32; 512])
+        requires { (u < 512) × (b < 512) × (self.old.count < 1024) }
+        ensures { Put u b self.old.count sums.old self.old.froms self.old.tos self.old.widths sums.new self.new.froms self.new.tos self.new.widths self.new.count }
+    {
+        let w = sums[b];
+        sums[b] = 0;
+        if w == 0 {
+            return;
+        }
+        let k = self.count;
+        self.froms[k] = u as u16;
+        self.tos[k] = b as u16;
+        self.widths[k] = w;
+        self.count = k + 1;
+    }
+}
 
 // Adds the width of each edge that leaves u to the entry of the cluster it goes to.
-fn add_widths(
-    row: &[u16],
-    starts: &[u16],
-    ends: &[u16],
-    widths: &[u32],
-    head: &[u16; 513],
-    next: &[u16; 1024],
-    u: usize,
-    sums: &mut [u32; 512],
-)
-    requires joins { Joins row.now starts.now ends.now }
-    requires linked { Linked (leave (arcs row.now starts.now ends.now)) (length starts.now) head.now next.now }
-    requires u_bound { (u < 512) × (length widths.now ≡ length starts.now) × Narrow widths.now }
+fn add_widths(links: RowLinks<'_, '_>, u: usize, sums: &mut [u32; 512])
+    requires u_bound { u < 512 }
     requires sums_value { sums.old ≡ zeros 512 }
-    ensures { Widths (arcs row.now starts.now ends.now) widths.now u (length starts.now) sums.new }
+    ensures { Widths (arcs_in links.entry.edges) links.entry.edges.widths.now u (length links.entry.edges.starts.now) sums.new }
 {
-    let m = starts.len();
-    let mut j = folds::wide(head[u]);
+    let edges = links.edges;
+    let m = edges.starts.len();
+    let mut j = usize::from(links.table.head[u]);
     while j < m {
-        let b = graph::cluster(row, ends, j);
-        sums[b] = sums[b] + widths[j];
-        j = folds::wide(next[j]);
+        let b = graph::cluster(edges.row, edges.ends, j);
+        sums[b] += edges.widths[j];
+        j = usize::from(links.table.next[j]);
     }
 }
 
-// Lists an edge from u to b after the first k, with the sum of b, where that is not 0. Answers how many there are.
-fn put(
-    u: usize,
-    b: usize,
-    k: usize,
-    sums: &mut [u32; 512],
-    from: &mut [u16; 1024],
-    to: &mut [u16; 1024],
-    width: &mut [u32; 1024],
-) -> usize
-    requires { (u < 512) × (b < 512) × (k < 1024) }
-    ensures { Put u b k sums.old from.old to.old width.old sums.new from.new to.new width.new result }
+// Lists an edge for each cluster that edges of u go to, and sets the sums back to 0.
+fn emit(links: RowLinks<'_, '_>, g: usize, u: usize, sums: &mut [u32; 512], joined: &mut Joined)
+    requires u_bound { (u < 512) × Inside (arcs_in links.edges) g }
+    requires widths { Widths (arcs_in links.edges) links.edges.widths.now u (length links.edges.starts.now) sums.old }
+    requires written { Written (arcs_in links.edges) links.edges.widths.now g u joined.old.count joined.old.froms joined.old.tos joined.old.widths }
+    ensures written { Written (arcs_in links.entry.edges) links.entry.edges.widths.now g (u + 1) joined.new.count joined.new.froms joined.new.tos joined.new.widths }
+    ensures sums_value { sums.new ≡ zeros 512 }
 {
-    let w = sums[b];
-    sums[b] = 0;
-    if w == 0 {
-        return k;
-    }
-    from[k] = u as u16;
-    to[k] = b as u16;
-    width[k] = w;
-    k + 1
-}
-
-// Lists an edge for each cluster that edges of u go to, after the first n, and sets the sums back to 0. Answers how many there are.
-fn emit(
-    row: &[u16],
-    starts: &[u16],
-    ends: &[u16],
-    widths: &[u32],
-    head: &[u16; 513],
-    next: &[u16; 1024],
-    g: usize,
-    u: usize,
-    n: usize,
-    sums: &mut [u32; 512],
-    from: &mut [u16; 1024],
-    to: &mut [u16; 1024],
-    width: &mut [u32; 1024],
-) -> usize
-    requires joins { Joins row.now starts.now ends.now }
-    requires linked { Linked (leave (arcs row.now starts.now ends.now)) (length starts.now) head.now next.now }
-    requires u_bound { (u < 512) × Inside (arcs row.now starts.now ends.now) g }
-    requires widths { Widths (arcs row.now starts.now ends.now) widths.now u (length starts.now) sums.old }
-    requires written { Written (arcs row.now starts.now ends.now) widths.now g u n from.old to.old width.old }
-    ensures { Written (arcs row.now starts.now ends.now) widths.now g (u + 1) result from.new to.new width.new × (sums.new ≡ zeros 512) }
-{
-    let m = starts.len();
-    let mut k = n;
-    let mut j = folds::wide(head[u]);
+    let edges = links.edges;
+    let m = edges.starts.len();
+    let mut j = usize::from(links.table.head[u]);
     while j < m {
-        let b = graph::cluster(row, ends, j);
-        k = put(u, b, k, sums, from, to, width);
-        j = folds::wide(next[j]);
+        let b = graph::cluster(edges.row, edges.ends, j);
+        joined.put(u, b, sums);
+        j = usize::from(links.table.next[j]);
     }
-    k
 }
 
-// The cluster that edge j leaves at its near end, or 512 where both ends lie in one.
-fn leaves(row: &[u16], near: &[u16], far: &[u16], j: usize) -> usize
-    requires joins { Joins row.now near.now far.now }
-    requires j_in_bounds { j < length near.now }
-    ensures { Leaves (arcs row.now near.now far.now) j result }
+// The cluster that edge j leaves, or 512 where both its ends lie in one.
+// stays: 512 for none, as in `graph::leaving_at`: `head` has a place for it, so that a write needs no branch.
+fn leaves(edges: RowEdges<'_>, j: usize) -> usize
+    requires { j < length edges.starts.now }
+    ensures { Leaves (arcs_in edges.entry) j result }
 {
-    let a = graph::cluster(row, near, j);
-    let b = graph::cluster(row, far, j);
+    let a = graph::cluster(edges.row, edges.starts, j);
+    let b = graph::cluster(edges.row, edges.ends, j);
     if a == b { 512 } else { a }
 }
 
-// Fills the lists of the edges that leave a cluster, by the cluster of their near end, from the last edge down.
-fn fill_leaving(
-    row: &[u16],
-    near: &[u16],
-    far: &[u16],
-    head: &mut [u16; 513],
-    next: &mut [u16; 1024],
-)
-    requires joins { Joins row.now near.now far.now }
-    requires next_len { length next.old ≡ 1024 }
-    ensures { Linked (leave (arcs row.now near.now far.now)) (length near.now) head.new next.new }
+// Fills the lists of the edges that leave a cluster, from the last edge down.
+// stays: `graph::link_leaving` but for the row that ends are read through: one of both takes a closure, with clauses longer than this.
+fn fill_leaving(edges: RowEdges<'_>, table: &mut LinkTable)
+    ensures { Linked (leave (arcs_in edges.entry)) (length edges.entry.starts.now) table.new.head table.new.next }
 {
-    let m = near.len();
-    *head = [m as u16; 513];
-    let mut j: usize = m;
-    while j > 0 {
-        j -= 1;
-        let k = leaves(row, near, far, j);
-        next[j] = head[k];
-        head[k] = j as u16;
+    let m = edges.starts.len();
+    table.head = [m as u16; 513];
+    for j in (0..m).rev() {
+        let k = leaves(edges, j);
+        table.next[j] = table.head[k];
+        table.head[k] = j as u16;
     }
 }
 
-// Lists the edges between the g clusters of a row, all from one to another as one with their summed width. Answers how many there are.
-pub fn join_edges(
-    row: &[u16],
-    starts: &[u16],
-    ends: &[u16],
-    widths: &[u32],
-    g: usize,
-    from: &mut [u16; 1024],
-    to: &mut [u16; 1024],
-    width: &mut [u32; 1024],
-) -> usize
-    requires joins { Joins row.now starts.now ends.now }
-    requires g_bound { (g ≤ 512) × Inside (arcs row.now starts.now ends.now) g }
-    requires widths_len { (length widths.now ≡ length starts.now) × Narrow widths.now }
-    requires from_len { (length from.old ≡ 1024) × (length to.old ≡ 1024) × (length width.old ≡ 1024) }
-    ensures { Written (arcs row.now starts.now ends.now) widths.now g g result from.new to.new width.new }
+// Lists the edges between the g clusters of a row, all from one to another as one with their summed width.
+pub fn join_edges(edges: RowEdges<'_>, g: usize, joined: &mut Joined)
+    requires { (g ≤ 512) × Inside (arcs_in edges) g }
+    ensures { Written (arcs_in edges.entry) edges.entry.widths.now g g joined.new.count joined.new.froms joined.new.tos joined.new.widths }
 {
-    let mut head = [0u16; 513];
-    let mut next = [0u16; 1024];
+    let mut table = LinkTable {
+        head: [0; 513],
+        next: [0; 1024],
+    };
     let mut sums = [0; 512];
-    fill_leaving(row, starts, ends, &mut head, &mut next);
-    let mut n: usize = 0;
-    let mut u: usize = 0;
-    while u < g {
-        add_widths(row, starts, ends, widths, &head, &next, u, &mut sums);
-        n = emit(
-            row, starts, ends, widths, &head, &next, g, u, n, &mut sums, from, to, width,
-        );
-        u += 1;
+    fill_leaving(edges, &mut table);
+    let links = RowLinks {
+        edges,
+        table: &table,
+    };
+    joined.count = 0;
+    for u in 0..g {
+        add_widths(links, u, &mut sums);
+        emit(links, g, u, &mut sums, joined);
     }
-    n
 }

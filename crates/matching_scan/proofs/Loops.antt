@@ -192,11 +192,7 @@ module _ (A : Arcs) (levels : List ℕ) (u : ℕ) {m : ℕ} {head next : List �
           (λ k. either (eq_or_ne i j) (λ q. absurd (ne (ap A.to q ∙ sym eb)))
           (λ q. absurd ((L.nexts j l).skips i (omega (arith, ltb-false i j k)) h (leave_at A i e n ∙ sym (o.at l))))))
 
--- a difference of 1, as the code reads it
-pub next_no : (levels : List ℕ) (u v : ℕ) → get_or levels v 0 ≤ get_or levels u 0 → false ≡ next_in levels u v
-unfolding next_in
-next_no levels u v l = sym (ne_eqb (get_or levels v 0) (get_or levels u 0 + 1) (λ e. omega arith))
-
+-- a difference of 1 between two levels
 pub next_by_lem : (levels : List ℕ) (u v : ℕ) → get_or levels u 0 < get_or levels v 0 → eqb (get_or levels v 0 - get_or levels u 0) 1 ≡ next_in levels u v
 unfolding next_in
 next_by_lem levels u v l =
@@ -209,9 +205,6 @@ next_by_lem levels u v l =
 
     down : get_or levels v 0 ≡ get_or levels u 0 + 1 → get_or levels v 0 - get_or levels u 0 ≡ 1
     down e = omega arith
-
-pub near_yes : (a b : Bool) {r : Bool} → r ≡ a → r ≡ true → true ≡ (a || b)
-near_yes a b e t = let q : a ≡ true = sym e ∙ t in rw q
 
 pub near_no : (a b : Bool) {r : Bool} → r ≡ a → r ≡ false → b ≡ (a || b)
 near_no a b e t = let q : a ≡ false = sym e ∙ t in rw q

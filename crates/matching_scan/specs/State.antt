@@ -1,10 +1,11 @@
 -- What the loops over the edges of a cluster do to the arrays of a round.
-use Rattle.std.specs.Prelude.{ℕ, ◌+◌, ◌≤◌, ◌<◌, ◌≡◌, Bool, true, false, not, ◌&&◌, ◌||◌, ◌⊎◌, List, eqb, ltb, length, get_or, set}
+use Rattle.std.specs.Prelude.{ℕ, ◌+◌, ◌≤◌, ◌<◌, ◌≡◌, Bool, true, false, not, ◌&&◌, ◌||◌, ◌⊎◌, List, eqb, ltb, length, get_or, set, Option, MatchOption}
 use Rattle.topology.specs.Level.{next_in}
 use Rattle.folds.specs.Fold.{pick, when, sum_to}
 use Rattle.graph.specs.Graph.{Arcs, joining, Edge, crossing}
 use Rattle.graph.specs.Links.{Ended, leave}
 use Rattle.graph.specs.Coarse.{sent, Narrow}
+use Rattle.matching_scan.specs.declared.Best.{Best}
 
 -- what edge j sends from u to any other
 unfoldable pub leaves : Arcs → List ℕ → ℕ → ℕ → ℕ
@@ -45,6 +46,10 @@ pub record Widest (A : Arcs) (f : ℕ → ℕ) (u j width to : ℕ) : Type 0 whe
   pub top : (i : ℕ) → i < j → leave A i ≡ u → f (A.to i) ≤ width
   pub low : (i : ℕ) → i < j → leave A i ≡ u → f (A.to i) ≡ width → (width ≡ 0) ⊎ (to ≤ A.to i)
   pub hit : (width ≡ 0) ⊎ ((f to ≡ width) × (to < 512))
+
+-- the widest offer to u and the lowest cluster that makes it; none where no offer is above 0
+abbrev pub Chosen : Arcs → (ℕ → ℕ) → ℕ → Option Best → Type 0
+Chosen A f u r = MatchOption r ((to : ℕ) × Widest A f u A.count 0 to) (λ b. (0 < b.width) × Widest A f u A.count b.width b.to)
 
 -- an offer of w by b wins over one of width by to: it is wider, or as wide and b is lower
 pub record Wins (width to w b : ℕ) (r : Bool) : Type 0 where

@@ -6,6 +6,7 @@ use native.Mathlib.Omega.{arith}
 use lib.ListN.{length, get_or, take, drop}
 use lib.Seq.{length-take-le, get_or-take}
 use Rattle.folds.specs.Fold.{put, part}
+use Rattle.folds.proofs.Slices.{length_part}
 use Rattle.graph.specs.Graph.{arcs, Inside}
 use Rattle.graph.specs.Links.{Joins}
 use Rattle.joined_edges.specs.Joining.{Written}
@@ -40,6 +41,12 @@ module _ {map froms tos widths : List ℕ} {g h : ℕ} (M : Maps map g h) (B : B
 
   pub carry_few : {count : ℕ} {fs ts ws : List ℕ} → Written (arcs (take g map) froms tos) widths h h count fs ts ws → count ≤ length froms
   carry_few W = listed_few (arcs (take g map) froms tos) widths h carry_inside M.low W
+
+-- a list with at least as many entries as are joined, which are at most as many as the edges before
+pub carry_room : {map fs ts ws : List ℕ} (froms tos widths l : List ℕ) {g h count : ℕ} (a size : ℕ) → Maps map g h → Between g (part froms a size) (part tos a size) (part widths a size) → a + size ≤ length froms
+    → Written (arcs (take g map) (part froms a size) (part tos a size)) (part widths a size) h h count fs ts ws → length l ≡ 1024 → length (take count l) ≤ size
+carry_room {map} {fs} {ts} {ws} froms tos widths l {g} {h} {count} a size M B r W t =
+    let n = length_part froms a size r in let f = carry_few M B W in omega (arith, n, f, B.few, length-take-le count l (omega (arith, t, B.few, f)))
 
 pub carried : {map froms tos widths froms' tos' widths' fs ts ws : List ℕ} {g h a size b count : ℕ} → Maps map g h → Between g (part froms a size) (part tos a size) (part widths a size)
     → length (part froms a size) ≡ size

@@ -1,15 +1,16 @@
 -- The clusters' costs, one old cluster after another.
-use Prim.Native.Nat.{ℕ, ◌+◌, ◌≤◌, ◌<◌}
+use Prim.Native.Nat.{ℕ, ◌+◌, ◌-◌, ◌≤◌, ◌<◌}
 use mathlib.Core.Path.{◌≡◌, sym, ◌∙◌}
 use mathlib.Core.List.{List}
 use native.Mathlib.Omega.{arith}
 use lib.Dec.{eqb, ltb}
-use lib.ListN.{length, get_or, set, length-set}
-use lib.Seq.{get_or-set_same, get_or-set_other}
-use borrow.Author.Tests.{ltb-true, ltb-false, lt-ltb, le-ltb}
-use Rattle.folds.specs.Fold.{when, sum_to, zeros, most_cost}
-use Rattle.folds.proofs.Cases.{by, either, eq_or_ne, when_le}
+use lib.ListN.{length, get_or, set, length-set, get_or-append}
+use lib.Seq.{get_or-append_right, get_or-drop}
+use borrow.Author.Tests.{ltb-true, ltb-false}
+use Rattle.folds.specs.Fold.{when, sum_to, put, zeros, most_cost}
+use Rattle.folds.proofs.Cases.{by, when_le}
 use Rattle.folds.proofs.Sums.{sum_to_zero, sum_to_step, sum_to_turn, sum_to_mono, sum_to_less}
+use Rattle.folds.proofs.Slices.{length-put}
 use Rattle.folds.proofs.Lists.{get_d_past, get_d_zeros, length-zeros, set_add}
 use Rattle.row_lists.specs.Carry.{Merged}
 
@@ -34,24 +35,13 @@ merged_room {map} {weights} {weights'} {c} {g} d M l h =
       sum_to_less (λ x. get_or weights x 0) (c + 1) g (omega arith),
     )
 
--- the costs of the first v vertices
-pub record Weighing (costs : List ℕ) (v : ℕ) (weights : List ℕ) : Type 0 where
-  pub tall : length weights ≡ 512
-  pub is : (c : ℕ) → get_or weights c 0 ≡ when (ltb c v) (get_or costs c 0)
-
-pub weighing_none : (costs : List ℕ) → Weighing costs 0 (zeros 512)
-weighing_none costs = record { tall = length-zeros 512; is = λ c. get_d_zeros 512 c ∙ rw (le-ltb c 0 (omega arith)) }
-
-pub weighing_turn : {costs weights : List ℕ} {v : ℕ} → Weighing costs v weights → v < 512 → Weighing costs (v + 1) (set weights v (get_or costs v 0))
-weighing_turn {costs} {weights} {v} W l =
-    record {
-      tall = length-set weights v _ ∙ W.tall;
-      is = λ c. either (eq_or_ne c v)
-          (λ e. rw (e, get_or-set_same weights v (get_or costs v 0) 0 (omega (arith, W.tall)), lt-ltb v (v + 1) (omega arith)))
-          (λ n. get_or-set_other weights v c (get_or costs v 0) 0 n ∙ W.is c
-          ∙ by (ltb c v) (λ t. rw (t, lt-ltb c (v + 1) (omega (arith, ltb-true c v t)))) (λ t. rw (t, le-ltb c (v + 1) (omega (arith, ltb-false c v t)))));
-    }
-
-pub weighing_end : {costs weights : List ℕ} {v : ℕ} → v ≡ length costs → Weighing costs v weights → (length weights ≡ 512) × ((c : ℕ) → get_or weights c 0 ≡ get_or costs c 0)
-weighing_end {costs} {weights} {v} e W =
-    (W.tall, λ c. W.is c ∙ by (ltb c v) (λ t. rw t) (λ t. rw t (sym (get_d_past costs c (omega (arith, ltb-false c v t))))))
+-- the vertices' costs, in front of zeros
+pub weighed_all : (costs : List ℕ) {weights : List ℕ} → length costs ≤ 512 → weights ≡ put (zeros 512) 0 costs → (length weights ≡ 512) × ((c : ℕ) → get_or weights c 0 ≡ get_or costs c 0)
+unfolding put
+weighed_all costs h e = (
+  rw e (length-put (zeros 512) 0 costs (omega (arith, h, length-zeros 512)) ∙ length-zeros 512),
+  λ c. rw e (by (ltb c (length costs))
+      (λ t. get_or-append costs _ 0 c (ltb-true c _ t))
+      (λ t. get_or-append_right costs _ c 0 (ltb-false c _ t) ∙ get_or-drop (0 + length costs) (zeros 512) (c - length costs) 0
+      ∙ get_d_zeros 512 _ ∙ sym (get_d_past costs c (ltb-false c _ t)))),
+)

@@ -1,129 +1,128 @@
 // The lists and costs of a row, carried to the next one.
 #![tactic(auto)]
 
-ghost use Rattle.std.specs.Prelude.{◌≡◌, ℕ, ◌+◌, ◌<◌, ◌≤◌, length, get_or, take};
+ghost use Rattle.std.specs.Prelude.{◌≡◌, ℕ, ◌+◌, ◌<◌, ◌≤◌, ◌++◌, length, get_or, take, drop};
 ghost use Rattle.folds.specs.Fold.{sum_to, put, part, most_cost};
+ghost use Rattle.graph.specs.Graph.{arcs};
+ghost use Rattle.joined_edges.specs.Joining.{Written};
 ghost use Rattle.row_lists.specs.Carry.{Between, Maps, First, Next, Merged};
 
-// Writes the first entries of src into dst, from a on.
-pub fn copy(src: &[u16], count: usize, dst: &mut [u16], a: usize)
-    requires { (count ≤ length src.now) × (a + count ≤ length dst.old) }
-    ensures { dst.new ≡ put dst.old a (take count src.now) }
-{
-    let mut i: usize = 0;
-    while i < count {
-        dst[a + i] = src[i];
-        i += 1;
-    }
+use graph::{Lists, RowStore};
+use joined_edges::{Joined, RowEdges};
+
+// The new number, one of `after`, of each of the `before` clusters of a row.
+#[derive(Clone, Copy)]
+pub struct Renaming<'a> {
+    pub map: &'a [u16; 512],
+    pub before: usize,
+    pub after: usize,
+    ghost maps: { Maps map.now before after },
 }
 
-// The same of 32 bits.
-fn copy32(src: &[u32], count: usize, dst: &mut [u32], a: usize)
-    requires { (count ≤ length src.now) × (a + count ≤ length dst.old) }
-    ensures { dst.new ≡ put dst.old a (take count src.now) }
+// Writes src into dst, from a on.
+pub fn copy<T: Copy>(src: &[T], dst: &mut [T], a: usize)
+    requires { a + length src.now ≤ length dst.old }
+    ensures { dst.new ≡ take a dst.old ++ (src.now ++ drop (a + length src.now) dst.old) }
 {
-    let mut i: usize = 0;
-    while i < count {
-        dst[a + i] = src[i];
-        i += 1;
-    }
+    dst[a..a + src.len()].copy_from_slice(src);
 }
 
-// Widths of 16 bits, in the front of dst.
+// Numbers of 16 bits, in the front of dst.
 fn widen(src: &[u16], dst: &mut [u32])
     requires { length src.now ≤ length dst.old }
-    ensures { dst.new ≡ put dst.old 0 src.now }
+    ensures after { dst.new ≡ put dst.old 0 src.now }
+    ensures narrow { (i : ℕ) → get_or src.now i 0 ≤ 65535 }
 {
-    let mut i: usize = 0;
-    while i < src.len() {
-        dst[i] = src[i] as u32;
-        i += 1;
+    for (i, x) in src.iter().enumerate() {
+        dst[i] = u32::from(*x);
     }
 }
 
 // The lists of the vertices' own row, in front of all others.
-pub fn first(
-    starts: &[u16],
-    ends: &[u16],
-    widths: &[u16],
-    froms: &mut [u16],
-    tos: &mut [u16],
-    wides: &mut [u32],
-    sizes: &mut [u16; 9],
-)
-    requires starts_len_bound { (length starts.now ≤ 1024) × (length ends.now ≡ length starts.now) × (length widths.now ≡ length starts.now) }
-    requires starts_in_bounds { (length starts.now ≤ length froms.old) × (length starts.now ≤ length tos.old) × (length starts.now ≤ length wides.old) }
-    ensures { First starts.now ends.now widths.now froms.old tos.old wides.old sizes.old froms.new tos.new wides.new sizes.new }
+pub fn first(lists: Lists<'_>, store: &mut RowStore<'_>)
+    requires starts_len_bound { (length lists.starts.now ≤ 1024) × (length lists.ends.now ≡ length lists.starts.now) × (length lists.widths.now ≡ length lists.starts.now) }
+    requires starts_in_bounds { (length lists.starts.now ≤ length store.old.froms.now) × (length lists.starts.now ≤ length store.old.tos.now) × (length lists.starts.now ≤ length store.old.wides.now) }
+    ensures first { First lists.entry.starts.now lists.entry.ends.now lists.entry.widths.now store.old.froms.now store.old.tos.now store.old.wides.now store.old.sizes store.new.froms.now store.new.tos.now store.new.wides.now store.new.sizes }
+    ensures orders { store.new.orders ≡ store.old.orders }
+    ensures narrow { (j : ℕ) → get_or lists.entry.widths.now j 0 ≤ 65535 }
 {
-    let m = starts.len();
-    copy(starts, m, froms, 0);
-    copy(ends, m, tos, 0);
-    widen(widths, wides);
-    sizes[0] = m as u16;
+    let m = lists.starts.len();
+    copy(lists.starts, store.froms, 0);
+    copy(lists.ends, store.tos, 0);
+    widen(lists.widths, store.wides);
+    store.sizes[0] = m as u16;
 }
 
 // The vertices' own costs.
 pub fn weigh(costs: &[u16], weights: &mut [u32; 512])
     requires { length costs.now ≤ 512 }
-    ensures { (length weights.new ≡ 512) × ((c : ℕ) → get_or weights.new c 0 ≡ get_or costs.now c 0) }
+    ensures weighed { (length weights.new ≡ 512) × ((c : ℕ) → get_or weights.new c 0 ≡ get_or costs.now c 0) }
+    ensures light { (c : ℕ) → get_or costs.now c 0 ≤ 65535 }
 {
     *weights = [0; 512];
-    let mut v: usize = 0;
-    while v < costs.len() {
-        weights[v] = costs[v] as u32;
-        v += 1;
-    }
+    widen(costs, weights);
+}
+
+// Joins the edges at a, `size` of them, by the new numbers of their clusters.
+fn join_part<'x>(
+    names: Renaming<'x>,
+    a: usize,
+    size: usize,
+    store: &'x RowStore<'_>,
+    joined: &mut Joined,
+)
+    requires between { Between names.before (part store.now.froms.now a size) (part store.now.tos.now a size) (part store.now.wides.now a size) }
+    requires size_bound { (a + size ≤ length store.now.froms.now) × (a + size ≤ length store.now.tos.now) × (a + size ≤ length store.now.wides.now) }
+    ensures { Written (arcs (take names.entry.before names.entry.map.now) (part store.now.froms.now a size) (part store.now.tos.now a size)) (part store.now.wides.now a size) names.entry.after names.entry.after joined.new.count joined.new.froms joined.new.tos joined.new.widths }
+{
+    let e = a + size;
+    let map = names.map;
+    let edges = RowEdges {
+        row: &map[..names.before],
+        starts: &store.froms[a..e],
+        ends: &store.tos[a..e],
+        widths: &store.wides[a..e],
+    };
+    joined_edges::join_edges(edges, names.after, joined);
 }
 
 // Joins the edges at a, `size` of them, by the new numbers of their clusters, into the lists from b on. Answers how many there are.
 pub fn carry(
-    map: &[u16],
-    g: usize,
-    h: usize,
+    names: Renaming<'_>,
     a: usize,
     size: usize,
     b: usize,
-    froms: &mut [u16],
-    tos: &mut [u16],
-    widths: &mut [u32],
+    store: &mut RowStore<'_>,
 ) -> usize
-    requires maps { Maps map.now g h }
-    requires between { Between g (part froms.old a size) (part tos.old a size) (part widths.old a size) }
-    requires size_bound { (a + size ≤ b) × (b + size ≤ length froms.old) × (b + size ≤ length tos.old) × (b + size ≤ length widths.old) }
-    ensures { Next map.now g h a size b froms.old tos.old widths.old froms.new tos.new widths.new result }
+    requires between { Between names.before (part store.old.froms.now a size) (part store.old.tos.now a size) (part store.old.wides.now a size) }
+    requires size_bound { (a + size ≤ b) × (b + size ≤ length store.old.froms.now) × (b + size ≤ length store.old.tos.now) × (b + size ≤ length store.old.wides.now) }
+    ensures next { Next names.entry.map.now names.entry.before names.entry.after a size b store.old.froms.now store.old.tos.now store.old.wides.now store.new.froms.now store.new.tos.now store.new.wides.now result }
+    ensures sizes { store.new.sizes ≡ store.old.sizes }
+    ensures orders { store.new.orders ≡ store.old.orders }
 {
-    let mut from = [0; 1024];
-    let mut to = [0; 1024];
-    let mut width = [0; 1024];
-    let e = a + size;
-    let count = joined_edges::join_edges(
-        &map[..g],
-        &froms[a..e],
-        &tos[a..e],
-        &widths[a..e],
-        h,
-        &mut from,
-        &mut to,
-        &mut width,
-    );
-    copy(&from, count, froms, b);
-    copy(&to, count, tos, b);
-    copy32(&width, count, widths, b);
+    let mut joined = Joined {
+        froms: [0; 1024],
+        tos: [0; 1024],
+        widths: [0; 1024],
+        count: 0,
+    };
+    join_part(names, a, size, store, &mut joined);
+    let count = joined.count;
+    copy(&joined.froms[..count], store.froms, b);
+    copy(&joined.tos[..count], store.tos, b);
+    copy(&joined.widths[..count], store.wides, b);
     count
 }
 
-// The costs of the clusters that the g old ones become.
-pub fn merge(map: &[u16; 512], g: usize, weights: &mut [u32; 512])
-    requires map_len { (length map.now ≡ 512) × (g ≤ 512) × ((c : ℕ) → c < g → get_or map.now c 0 < 512) }
-    requires weights_len { (length weights.old ≡ 512) × (sum_to g (λ c. get_or weights.old c 0) ≤ most_cost) }
-    ensures { Merged map.now weights.old g weights.new }
+// The costs of the clusters that the old ones become.
+pub fn merge(names: Renaming<'_>, weights: &mut [u32; 512])
+    requires { sum_to names.before (λ c. get_or weights.old c 0) ≤ most_cost }
+    ensures { Merged names.entry.map.now weights.old names.entry.before weights.new }
 {
     let old = *weights;
     *weights = [0; 512];
-    let mut c: usize = 0;
-    while c < g {
-        let d = folds::wide(map[c]);
-        weights[d] = weights[d] + old[c];
-        c += 1;
+    for c in 0..names.before {
+        let d = usize::from(names.map[c]);
+        weights[d] += old[c];
     }
 }

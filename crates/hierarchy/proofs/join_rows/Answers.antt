@@ -1,39 +1,48 @@
-use lib.ListN.{get_or}
-use mathlib.Core.Path.{refl}
-use Prim.Native.Nat.{ℕ}
+use mathlib.Core.Path.{◌≡◌, ◌∙◌, refl}
 use native.Mathlib.Omega.{arith}
-use Prim.Native.Nat.{◌≤◌}
-use Rattle.hierarchy.proofs.Storing.{costs_light}
-use Rattle.hierarchy.proofs.Starting.{first_carrying}
 use Rattle.hierarchy.proofs.Rounds.{joining_start, joining_ready, joining_turn, joining_stop, joining_end}
-use Rattle.graph.specs.Graph.{graph_of}
-use borrow.Author.Rules.{rules}
 use Rattle.hierarchy.proofs.join_rows.Goals as goal
 
 pub loop-r-init : goal.loop-r-init
-loop-r-init c = let G = graph_of c.args.costs.now c.args.starts.now c.args.ends.now c.args.widths.now in let low : (v : ℕ) → get_or c.args.costs.now v 0 ≤ 65535 = λ v. omega (arith, c.type_inv.costs v) in (omega arith, joining_start _ _ _ c.requires.buildable _ c.requires.rows_room.row_room c.requires.costs_value, first_carrying G c.args.k c.requires.buildable _ c.requires.costs_value (costs_light G c.requires.buildable.proper.few low) c.requires.carried c.weigh.ensures.0 c.weigh.ensures.1 low, c.requires.rows_room, refl, refl, refl, refl, c.requires.linked_at.0, c.requires.linked_at.1)
-
-pub step-h-requires : goal.step-h-requires
-step-h-requires c = record {
-  round_ready = (joining_ready _ _ _ c.requires.buildable _ c.requires.rows_room.row_room c.requires.costs_value c.loop-r.invariant.1, c.loop-r.invariant.1.sound);
-  carrying = c.loop-r.invariant.2;
-  rows_room = c.loop-r.invariant.3;
-  r_bound = (c.loop-r-test.true, c.requires.buildable.few, c.loop-r.invariant.1.few, c.loop-r.invariant.8, c.loop-r.invariant.9);
+loop-r-init c = record {
+  rows = joining_start _ _ _ c.requires.buildable _ c.requires.rows_room.row_room c.requires.costs_value;
+  carrying = c.requires.carrying;
+  room = c.requires.rows_room;
+  links = c.requires.linked_at.0;
+  same = refl;
+  levels = c.requires.linked_at.1;
 }
 
-pub returns-then-h-eq0 : goal.returns-then-h-eq0
-returns-then-h-eq0 c = record {
-  built = joining_stop _ _ _ c.requires.buildable _ c.requires.rows_room.row_room c.requires.costs_value c.loop-r.invariant.1 (omega (arith, c.loop-r-test.true)) c.step-h.ensures.steps.joined c.if-h-eq0.true;
-  carried_2 = c.step-h.ensures.steps.none c.if-h-eq0.true;
-  linked_at_2 = c.step-h.ensures.steps.links_stay c.if-h-eq0.true;
+pub step-requires : goal.step-requires
+step-requires c = record {
+  round_ready = (joining_ready _ _ _ c.requires.buildable _ c.requires.rows_room.row_room c.requires.costs_value c.loop-r.invariant.rows, c.loop-r.invariant.rows.sound);
+  carrying = c.loop-r.invariant.carrying;
+  rows_room = c.loop-r.invariant.room;
+  r_bound = (c.loop-r-test.true, c.loop-r.invariant.rows.few, c.loop-r.invariant.links, c.loop-r.invariant.levels);
+}
+
+pub returns-in_default : goal.returns-in_default
+returns-in_default c = record {
+  built = joining_stop _ _ _ c.requires.buildable _ c.requires.rows_room.row_room c.requires.costs_value c.loop-r.invariant.rows c.loop-r-test.true c.in_default.ensures.steps.joined;
+  carried_2 = c.in_default.ensures.steps.none refl;
+  linked_at_2 = c.in_default.ensures.steps.links_stay refl;
+  same_links = c.in_default.ensures.same_links ∙ c.loop-r.invariant.same;
 }
 
 pub loop-r-preserved : goal.loop-r-preserved
-loop-r-preserved c = (omega arith, joining_turn _ _ _ c.requires.buildable _ c.requires.rows_room.row_room c.requires.costs_value c.loop-r.invariant.1 (omega (arith, c.loop-r-test.true)) c.step-h.ensures.steps.joined c.if-h-eq0.false, c.step-h.ensures.steps.some c.if-h-eq0.false, c.step-h.ensures.rows_room_2, search rules, search rules, search rules, search rules, c.step-h.ensures.steps.links_next c.if-h-eq0.false, c.step-h.ensures.steps.levels_next c.if-h-eq0.false)
+loop-r-preserved c = record {
+  rows = joining_turn _ _ _ c.requires.buildable _ c.requires.rows_room.row_room c.requires.costs_value c.loop-r.invariant.rows c.loop-r-test.true c.in-Some.ensures.steps.joined;
+  carrying = c.in-Some.ensures.steps.some _ refl;
+  room = c.in-Some.ensures.rows_room_2;
+  links = c.in-Some.ensures.steps.links_next _ refl;
+  same = c.in-Some.ensures.same_links ∙ c.loop-r.invariant.same;
+  levels = c.in-Some.ensures.steps.levels_next _ refl;
+}
 
 pub returns : goal.returns
-returns c = record {
-  built = joining_end _ _ _ c.requires.buildable _ c.requires.rows_room.row_room c.requires.costs_value c.loop-r.invariant.1 c.loop-r-test.false;
-  carried_2 = c.loop-r.invariant.2.carried;
-  linked_at_2 = c.loop-r.invariant.8;
+returns c = let e : c.loop-r.r ≡ 8 = omega arith in record {
+  built = rw e at (joining_end _ _ _ c.requires.buildable _ c.requires.rows_room.row_room c.requires.costs_value c.loop-r.invariant.rows c.loop-r-test.false);
+  carried_2 = rw e at c.loop-r.invariant.carrying.carried;
+  linked_at_2 = rw e at c.loop-r.invariant.links;
+  same_links = c.loop-r.invariant.same;
 }

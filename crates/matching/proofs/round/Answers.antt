@@ -1,37 +1,25 @@
+use Prim.Native.Nat.{◌<◌}
+use mathlib.Core.Path.{◌≡◌, ◌∙◌}
+use lib.ListN.{length}
+use lib.Seq.{length-take-le, get_or-take}
 use native.Mathlib.Omega.{arith}
 use Rattle.matching.proofs.Steps.{rounding_none, rounding_turn, rounding_end, order_low, round_context, ready_joining}
 use Rattle.folds.specs.Fold.{zeros}
+use Rattle.graph.specs.Graph.{identity}
 use Rattle.matching.proofs.round.Goals as goal
 
-pub loop-i-init : goal.loop-i-init
-unfolding zeros
-loop-i-init c = (omega arith, rounding_none _ _ _ _ _ _ (round_context c.requires.round_ready c.requires.cluster_costs.0 c.requires.levels_value) (ready_joining c.requires.round_ready) c.singles.ensures)
-
-pub at16-u-requires : goal.at16-u-requires
-unfolding zeros
-at16-u-requires c = omega (arith, c.requires.in_order.long, c.loop-i-test.true)
+pub loop-u-init : goal.loop-u-init
+unfolding zeros identity
+loop-u-init c = let e : length c.args.pairs.now.mates ≡ 512 = omega arith in rounding_none _ _ _ _ _ _ (round_context c.requires.round_ready c.requires.cluster_costs.0 c.requires.levels_value) (ready_joining c.requires.round_ready) (rw e at c.number_entries.ensures)
 
 pub visit-count-requires : goal.visit-count-requires
 unfolding zeros
-visit-count-requires c = record {
-  simple = c.requires.cluster_costs.1;
-  linked = c.requires.linked;
-  u_bound = (order_low _ _ _ _ _ 0 (round_context c.requires.round_ready c.requires.cluster_costs.0 c.requires.levels_value) (ready_joining c.requires.round_ready) c.requires.in_order c.loop-i-test.true c.at16-u.ensures.is, c.requires.cluster_costs.0.light);
-  tall = c.loop-i.invariant.1.tall;
-}
+visit-count-requires c = let n = length-take-le c.args.g c.args.order.now (omega (arith, c.requires.in_order.long)) in let lt : c.loop-u.u-index < c.args.g = omega (arith, n, c.loop-u-test.true) in (order_low _ _ _ _ _ 0 (round_context c.requires.round_ready c.requires.cluster_costs.0 c.requires.levels_value) (ready_joining c.requires.round_ready) c.requires.in_order lt (c.from.ensures ∙ get_or-take c.args.g c.args.order.now c.loop-u.u-index 0 lt), c.requires.cluster_costs.1)
 
-pub overflow_add-count : goal.overflow_add-count
+pub loop-u-preserved : goal.loop-u-preserved
 unfolding zeros
-overflow_add-count c = omega (arith, c.visit-count.ensures.few, c.loop-i.invariant.1.few, c.loop-i.invariant.0, c.requires.round_ready.small)
-
-pub overflow_add-i : goal.overflow_add-i
-unfolding zeros
-overflow_add-i c = omega (arith, c.loop-i-test.true, c.requires.round_ready.small)
-
-pub loop-i-preserved : goal.loop-i-preserved
-unfolding zeros
-loop-i-preserved c = (omega arith, rounding_turn _ _ _ _ _ _ (round_context c.requires.round_ready c.requires.cluster_costs.0 c.requires.levels_value) (ready_joining c.requires.round_ready) c.requires.in_order c.loop-i-test.true c.at16-u.ensures.is c.loop-i.invariant.1 c.visit-count.ensures)
+loop-u-preserved c = let n = length-take-le c.args.g c.args.order.now (omega (arith, c.requires.in_order.long)) in let lt : c.loop-u.u-index < c.args.g = omega (arith, n, c.loop-u-test.true) in rounding_turn _ _ _ _ _ _ (round_context c.requires.round_ready c.requires.cluster_costs.0 c.requires.levels_value) (ready_joining c.requires.round_ready) c.requires.in_order lt (c.from.ensures ∙ get_or-take c.args.g c.args.order.now c.loop-u.u-index 0 lt) c.loop-u.invariant c.visit-count.ensures
 
 pub returns : goal.returns
 unfolding zeros
-returns c = rounding_end _ _ _ _ _ _ (round_context c.requires.round_ready c.requires.cluster_costs.0 c.requires.levels_value) (ready_joining c.requires.round_ready) c.loop-i.invariant.0 c.loop-i-test.false c.loop-i.invariant.1
+returns c = let n = length-take-le c.args.g c.args.order.now (omega (arith, c.requires.in_order.long)) in rounding_end _ _ _ _ _ _ (round_context c.requires.round_ready c.requires.cluster_costs.0 c.requires.levels_value) (ready_joining c.requires.round_ready) (omega (arith, n)) (omega (arith, n)) c.loop-u.invariant

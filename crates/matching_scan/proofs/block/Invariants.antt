@@ -1,5 +1,5 @@
 -- so far the edges of u before j have blocked what they go to on the next level
-use Rattle.graph.specs.Graph.{joining}
+use Rattle.graph.specs.Lent.{arcs_in}
 use Rattle.graph.specs.Links.{leave}
 use Rattle.graph.proofs.Links.{On}
 use Rattle.matching_scan.specs.State.{Blocking}
@@ -9,7 +9,7 @@ use lib.ListN.{length}
 use Rattle.matching_scan.proofs.block.Given as goal
 
 abbrev pub invariant-loop-j : goal.invariant-loop-j
-invariant-loop-j l = (l.m ≡ length l.starts) × On (leave (joining l.starts l.ends)) l.m l.u l.j × Blocking (joining l.starts l.ends) l.levels l.u l.j l.initial.blocked l.blocked
+invariant-loop-j l = (l.m ≡ length l.links.edges.starts.now) × On (leave (arcs_in l.links.edges)) l.m l.u l.j × Blocking (arcs_in l.links.edges) l.levels l.u l.j l.initial.blocked l.blocked
 
 abbrev pub decreases-loop-j : goal.decreases-loop-j
 decreases-loop-j l = l.m - l.j

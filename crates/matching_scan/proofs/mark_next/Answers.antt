@@ -3,15 +3,13 @@ use Rattle.matching_scan.specs.State.{blocked_of}
 use mathlib.Core.Path.{sym, ◌∙◌}
 use Rattle.folds.proofs.Cases.{cases}
 use Rattle.matching_scan.proofs.mark_next.Goals as goal
-
-pub returns-then-b-u : goal.returns-then-b-u
-unfolding blocked_of
-returns-then-b-u c = search cases
+use Rattle.matching_scan.proofs.mark_next.Goals.{else-b-u-via-then-b-u+else-is_next, else-b-u-via-else-b-u}
 
 pub returns-then-is_next : goal.returns-then-is_next
 unfolding blocked_of
 returns-then-is_next c = search (cases, sym c.is_next.ensures ∙ c.if-is_next.true)
 
-pub returns-else-is_next : goal.returns-else-is_next
+pub returns-else-b-u : goal.returns-else-b-u
 unfolding blocked_of
-returns-else-is_next c = search (cases, sym c.is_next.ensures ∙ c.if-is_next.false)
+returns-else-b-u c =
+    elim c.else-b-u.branch [ else-b-u-via-then-b-u+else-is_next w ↦ search (cases, sym w.is_next.ensures ∙ w.if-is_next.false) | else-b-u-via-else-b-u w ↦ search (cases, w.if-b-u.false) ]

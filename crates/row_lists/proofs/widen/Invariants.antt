@@ -1,12 +1,8 @@
 -- The entries below i are copied.
-use lib.ListN.{length, take}
+use lib.ListN.{take}
 use mathlib.Core.Path.{◌≡◌}
-use Prim.Native.Nat.{◌≤◌, ◌-◌}
 use Rattle.folds.specs.Fold.{put}
 use Rattle.row_lists.proofs.widen.Given as goal
 
 abbrev pub invariant-loop-i : goal.invariant-loop-i
-invariant-loop-i l = (l.i ≤ length l.src) × (length l.dst ≡ length l.initial.dst) × (l.dst ≡ put l.initial.dst 0 (take l.i l.src))
-
-abbrev pub decreases-loop-i : goal.decreases-loop-i
-decreases-loop-i l = length l.src - l.i
+invariant-loop-i l = l.dst ≡ put l.initial.dst 0 (take l.i l.src)
