@@ -3,75 +3,50 @@
 #![tactic(auto)]
 
 ghost use Rattle.std.specs.Prelude.{◌≡◌, ◌<◌, ◌≤◌, length};
-ghost use Rattle.folds.specs.Fold.{over};
-ghost use Rattle.graph.specs.Coarse.{Narrow};
-ghost use Rattle.graph.specs.Links.{Joins};
-ghost use Rattle.division_table.specs.Promises.{within, Table, Blank, next_by, starts_by};
-ghost use Rattle.division_table.specs.Fewest.{Before, After};
-ghost use Rattle.division_scan.specs.Scan.{IntoRoom, Gathered, Positioned, LinkedBy, leaving_by, Costs, CutsKnown};
+ghost use Rattle.division_table.specs.Promises.{Table, Blank};
+ghost use Rattle.division_scan.specs.Scan.{IntoRoom};
+ghost use Rattle.division_scan.specs.Placed.{GatheredAt, next_in, starts_in, CutsOf};
+
+use division_table::Weights;
+
+mod edges;
+
+pub use edges::{Limits, PlacedEdges};
 
 // Adds the edges that start at y, those of the cluster that lies there, to what comes into the positions where they end, and answers their width.
-fn gather(
-    places: &[u16],
-    starts: &[u16],
-    ends: &[u16],
-    widths: &[u32],
-    order: &[u16],
-    head: &[u16; 513],
-    next: &[u16; 1024],
-    y: usize,
-    into: &mut [u32; 512],
-) -> u32
-    requires joins { Joins places.now starts.now ends.now }
-    requires linked_by { LinkedBy order.now places.now starts.now head.now next.now }
-    requires y_in_bounds { (y < length places.now) × (length widths.now ≡ length starts.now) × Narrow widths.now }
+fn gather(e: PlacedEdges<'_>, y: usize, into: &mut [u32; 512]) -> u32
+    requires y_in_bounds { y < length e.places.now }
     requires into_room { IntoRoom into.old }
-    ensures { Gathered places.now starts.now ends.now widths.now y (length starts.now) into.old into.new result }
+    ensures { GatheredAt e.entry y into.old into.new result }
 {
-    let m = starts.len();
+    let m = e.starts.len();
     let mut sum: u32 = 0;
-    let a = folds::at16(order, y);
-    let mut j = folds::wide(head[a]);
+    let a = usize::from(e.order[y]);
+    let mut j = usize::from(e.links.head[a]);
     while j < m {
-        let x = graph::cluster(places, ends, j);
-        let w = widths[j];
-        into[x] = into[x] + w;
+        let x = graph::cluster(e.places, e.ends, j);
+        let w = e.widths[j];
+        into[x] += w;
         sum += w;
-        j = folds::wide(next[j]);
+        j = usize::from(e.links.next[j]);
     }
     sum
 }
 
-// The start that follows y, where j follow it; or g.
-fn next_start(
-    places: &[u16],
-    starts: &[u16],
-    ends: &[u16],
-    widths: &[u32],
-    order: &[u16],
-    head: &[u16; 513],
-    next: &[u16; 1024],
-    cut: &[u32],
-    g: usize,
-    y: usize,
-    j: usize,
-) -> usize
-    requires positioned { Positioned places.now starts.now ends.now widths.now g }
-    requires linked_by { LinkedBy order.now places.now starts.now head.now next.now }
-    requires table { Table g cut.now }
-    requires y_le_g { (y ≤ g) × (g ≤ 512) × (j < 15) }
-    ensures { result ≡ next_by g (leaving_by places.now starts.now ends.now widths.now) cut.now j y }
+// The start that follows y, where j follow it; or the number of positions.
+// stays: `follow` writes it as a start, as the definition (`starts_by`) does; with an `Option` it would need a case that gives up.
+fn next_start(e: PlacedEdges<'_>, cut: &[u32], y: usize, j: usize) -> usize
+    requires table { Table (length e.places.now) cut.now }
+    requires y_le_g { (y ≤ length e.places.now) × (j < 15) }
+    ensures { result ≡ next_in e.entry cut.now j y }
 {
+    let g = e.places.len();
     let goal = cut[y * 17 + (j + 1)];
     let mut into = [0u32; 512];
     let mut out: u32 = 0;
-    let mut x = y;
-    while x + 1 < g {
-        let w = gather(
-            places, starts, ends, widths, order, head, next, x, &mut into,
-        );
-        out = out + w - into[x];
-        x += 1;
+    for x in y + 1..g {
+        let w = gather(e, x - 1, &mut into);
+        out = out + w - into[x - 1];
         if out + cut[x * 17 + j] == goal {
             return x;
         }
@@ -79,96 +54,48 @@ fn next_start(
     g
 }
 
-// Writes the n starts that follow position 0.
-pub fn follow(
-    places: &[u16],
-    starts: &[u16],
-    ends: &[u16],
-    widths: &[u32],
-    order: &[u16],
-    head: &[u16; 513],
-    next: &[u16; 1024],
-    cut: &[u32],
-    g: usize,
-    n: usize,
-    first: &mut [u16; 16],
-)
-    requires positioned { Positioned places.now starts.now ends.now widths.now g }
-    requires linked_by { LinkedBy order.now places.now starts.now head.now next.now }
-    requires table { Table g cut.now }
-    requires g_bound { (g ≤ 512) × (n < 16) × (length first.old ≡ 16) }
-    ensures { first.new ≡ over (starts_by g (leaving_by places.now starts.now ends.now widths.now) cut.now n 0) first.old }
+// Writes the starts that follow position 0, each the next of the one before.
+pub fn follow(e: PlacedEdges<'_>, cut: &[u32], first: &mut [u16])
+    requires table { Table (length e.places.now) cut.now }
+    requires few { length first.old < 16 }
+    ensures { first.new ≡ starts_in e.entry cut.now (length first.old) }
 {
+    let n = first.len();
     let mut y: usize = 0;
-    let mut i: usize = 0;
-    while i < n {
-        y = next_start(
-            places,
-            starts,
-            ends,
-            widths,
-            order,
-            head,
-            next,
-            cut,
-            g,
-            y,
-            n - (i + 1),
-        );
-        first[i] = y as u16;
-        i += 1;
+    for (i, start) in first.iter_mut().enumerate() {
+        y = next_start(e, cut, y, n - (i + 1));
+        *start = y as u16;
     }
 }
 
 // Fills the table of the least cuts that a division with n starts can have, from the last position down.
 pub fn tabulate(
-    starts: &[u16],
-    ends: &[u16],
-    widths: &[u32],
-    places: &[u16],
-    cost: &[u32; 512],
-    before: &[u16; 512],
-    after: &[u16; 512],
-    order: &[u16],
-    head: &[u16; 513],
-    next: &[u16; 1024],
-    bound: u32,
-    g: usize,
+    e: PlacedEdges<'_>,
+    limits: Limits<'_>,
     n: usize,
     away: &mut [u32; 512],
     cut: &mut [u32],
 )
-    requires positioned { Positioned places.now starts.now ends.now widths.now g }
-    requires linked_by { LinkedBy order.now places.now starts.now head.now next.now }
-    requires costs { Costs cost.now g }
-    requires before { Before g (within cost.now bound) before.now }
-    requires after { After g (within cost.now bound) 0 after.now }
-    requires g_bound { (g ≤ 512) × (n ≤ 16) × (length away.old ≡ 512) }
-    requires table { Table g cut.old }
-    requires blank { Blank g cut.old }
-    ensures { CutsKnown n places.now starts.now ends.now widths.now cost.now bound g 0 away.new cut.new }
+    requires g_bound { (limits.g ≡ length e.places.now) × (n ≤ 16) }
+    requires table { Table limits.g cut.old }
+    requires blank { Blank limits.g cut.old }
+    ensures { CutsOf e.entry limits.entry n away.new cut.new }
 {
     let mut into = [0u32; 512];
     let mut rest: u32 = 0;
-    let mut y = g;
-    while y > 0 {
-        y -= 1;
-        away[y] = gather(
-            places, starts, ends, widths, order, head, next, y, &mut into,
-        );
-        rest += cost[y];
-        division_table::sweep(
-            cost,
+    for y in (0..limits.g).rev() {
+        away[y] = gather(e, y, &mut into);
+        rest += limits.cost[y];
+        let w = Weights {
+            cost: limits.cost,
             away,
-            &into,
-            bound,
-            g,
+            into: &into,
+            bound: limits.bound,
+            g: limits.g,
             y,
-            n,
-            folds::wide(before[y]),
-            folds::wide(after[y]),
-            rest,
-            cut,
-        );
+        };
+        let before = usize::from(limits.before[y]);
+        let after = usize::from(limits.after[y]);
+        division_table::sweep(w, n, before, after, rest, cut);
     }
 }

@@ -2,7 +2,6 @@
 use Prim.Native.Nat.{ℕ, suc, ◌+◌, ◌≤◌, ◌<◌}
 use mathlib.Core.Path.{◌≡◌, refl, sym, ◌∙◌}
 use mathlib.Core.Bool.{Bool, true, false}
-use mathlib.Core.Logic.{◌⊎◌}
 use mathlib.Core.List.{List, [], ◌∷◌}
 use native.Mathlib.Omega.{arith}
 use lib.Dec.{ltb}
@@ -12,7 +11,7 @@ use borrow.Author.Tests.{ltb-true, ltb-false, leb-true, le-leb}
 use Rattle.folds.proofs.Cases.{by, either, eq_or_ne, both, no_bool}
 use Rattle.division_table.specs.Division.{Rising, fits, Pick, none, some}
 use Rattle.division_table.specs.Promises.{best, span, within}
-use Rattle.division_table.specs.Fewest.{Before, After, PackedBelow, PackedFrom}
+use Rattle.division_table.specs.Fewest.{Before, After, PackedBelow, PackedFrom, Turned}
 use Rattle.division_table.proofs.Wins.{From, best_holds}
 use Rattle.division_table.proofs.Intervals.{rising_below}
 use Rattle.division_table.proofs.Tables.{span_start, span_next, span_mono, span_narrow, span_front, within_no}
@@ -51,10 +50,6 @@ pub within_monotone : (cost : List ℕ) (bound : ℕ) → Monotone (within cost 
 unfolding within
 within_monotone cost bound y z x w a b e =
     le-leb (span cost z x) bound (omega (arith, leb-true (span cost y w) bound e, span_narrow cost y z x a, span_mono cost y x w b))
-
--- what a turn leaves of the count so far: a filled interval takes position x too, or it is past the bound and the next starts
-abbrev pub Turned : ℕ → ℕ → ℕ → ℕ → ℕ → ℕ → Type 0
-Turned bound c load load' count count' = ((bound < load + c) × (load' ≡ c) × (count' ≡ count + 1)) ⊎ ((load + c ≤ bound) × (load' ≡ load + c) × (count' ≡ count))
 
 -- upward
 pub below_first : (cost : List ℕ) (bound : ℕ) (before : List ℕ) {r : ℕ} → length before ≡ 512 → r ≡ 0 → PackedBelow cost bound 1 (get_or cost 0 0) 1 (set before 0 r)
@@ -126,9 +121,6 @@ below_turn {cost} {bound} {x} {load} {load'} {count} {count'} {before} P l h =
               (λ q. either (eq_or_ne y x) (λ r. rw (q, r) (omega arith)) (λ r. rw (q, here) (omega (arith, old y (omega arith), P.step y (omega arith) (rw q at e)))))
               (λ q. omega (arith, old y (omega arith), old z (omega arith), P.counts.step y z i (omega arith) e));
         }
-
-pub below_end : {cost : List ℕ} {bound g x load count : ℕ} {before : List ℕ} → PackedBelow cost bound x load count before → g ≤ x → Before g (within cost bound) before
-below_end P h = record { tall = P.counts.tall; first = P.counts.first; step = λ y x l k e. P.counts.step y x l (omega arith) e }
 
 -- downward
 pub from_none : (cost : List ℕ) (bound g : ℕ) {after : List ℕ} → length after ≡ 512 → PackedFrom cost bound g g 0 1 after

@@ -1,27 +1,19 @@
 -- Sums over the code's arrays are those of the intervals from y on.
-use Prim.Native.Nat.{ℕ, zero, suc, ◌+◌, ◌*◌, ◌≤◌, ◌<◌}
+use Prim.Native.Nat.{ℕ, ◌+◌, ◌*◌, ◌≤◌, ◌<◌}
 use mathlib.Core.Path.{◌≡◌, sym, ◌∙◌}
 use mathlib.Core.Bool.{◌&&◌}
 use mathlib.Core.List.{List}
-use native.Mathlib.Nat.{eq-or-lt_of_le}
-use native.Mathlib.Numerals.{add-one}
 use native.Mathlib.Omega.{arith}
 use lib.Dec.{ltb, leb, eqb}
 use lib.ListN.{get_or}
 use borrow.Author.Tests.{lt-leb}
 use Rattle.folds.specs.Fold.{when, sum_to}
-use Rattle.folds.proofs.Cases.{either, when_le}
+use Rattle.folds.proofs.Cases.{when_le}
 use Rattle.folds.proofs.Sums.{sum_to_none, sum_to_le}
 use Rattle.division_table.specs.Division.{between}
 use Rattle.division_table.specs.Promises.{span}
 use Rattle.division_table.proofs.Intervals.{between_none, between_next, leaving, out_of, into_from, leaving_none, leaving_next}
-use Rattle.division_table.proofs.Tables.{span_next}
-
--- from y up to g
-upward : (P : ℕ → Type 0) (y g : ℕ) → P y → ((x : ℕ) → y ≤ x → x < g → P x → P (x + 1)) → (x : ℕ) → y ≤ x → x ≤ g → P x
-upward P y g b s zero l h = let q : y ≡ 0 = omega arith in rw q at b
-upward P y g b s (suc x) l h =
-    either (eq-or-lt_of_le l) (λ e. rw e at b) (λ k. rw add-one at (s x (omega arith) (omega arith) (upward P y g b s x (omega arith) (omega arith))))
+use Rattle.division_table.proofs.Tables.{upward, span_next}
 
 pub span_none : (l : List ℕ) (y : ℕ) → span l y y ≡ 0
 unfolding span

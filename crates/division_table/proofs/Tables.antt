@@ -1,43 +1,36 @@
 -- Laws of the code's table: the offers of a next start, a sweep over the next starts, the cuts of a position stored.
 use Prim.Native.Nat.{ℕ, zero, suc, ◌+◌, ◌-◌, ◌*◌, ◌≤◌, ◌<◌, min}
 use mathlib.Core.Path.{◌≡◌, refl, ap, sym, ◌∙◌}
-use mathlib.Core.Bool.{Bool, true, false}
-use mathlib.Core.Logic.{◌⊎◌, inl, inr}
+use mathlib.Core.Bool.{true, false}
+use mathlib.Core.Logic.{inl, inr}
 use mathlib.Core.List.{List, [], ◌∷◌}
+use native.Mathlib.Nat.{eq-or-lt_of_le}
+use native.Mathlib.Numerals.{add-one}
 use native.Mathlib.Omega.{arith}
 use lib.Dec.{ltb, leb, eqb}
-use lib.ListN.{length, get_or, set, length-set, take, replicate, length-replicate, get_or-replicate}
-use lib.Seq.{get_or-set_same, get_or-set_other, length-take-le, get_or-take}
+use lib.ListN.{length, get_or, take, drop, length-drop, get_or-append, replicate, length-replicate, get_or-replicate}
+use lib.Seq.{length-take-le, take_all, get_or-take, get_or-append_right, get_or-drop}
 use borrow.Author.Tests.{ltb-true, ltb-false, lt-ltb, le-ltb, le-leb, lt-leb, leb-true, leb-false, eqb-true, eqb-false}
-use Rattle.folds.specs.Fold.{when, first_to, most_cost, most_width}
-use Rattle.folds.proofs.Searches.{first_to_ext, first_to_le}
-use Rattle.folds.proofs.Lists.{get_d_past, set_at_most}
-use Rattle.folds.proofs.Cases.{by, either, eq_or_ne, when_more}
+use Rattle.folds.specs.Fold.{when, most_cost, most_width}
+use Rattle.folds.proofs.Searches.{first_to_le}
+use Rattle.folds.proofs.Lists.{get_d_past}
+use Rattle.folds.proofs.Cases.{by, either, when_more}
 use Rattle.folds.proofs.Sums.{sum_to_step, sum_to_none, sum_to_less, sum_to_mono, sum_to_ext, sum_to_add, sum_to_only}
-use Rattle.division_table.specs.Promises.{no_cut, lowest, LowCuts, Relaxed, Topped, span, within, RunWeights, onward, lowest_from, Lanes, LanesStored, Table, ColumnsFilled, Column, next_by, starts_by, InInterval}
+use Rattle.division_table.specs.Promises.{no_cut, lowest, LowCuts, Relaxed, Topped, span, within, RunWeights, onward, lowest_from, Lanes, LanesStored, Table, ColumnsFilled, next_by, starts_by, InInterval}
 use Rattle.division_table.proofs.Intervals.{interval_first}
+use borrow.Rule.Slice.PartMut.{put_mid, same_len_mid}
+use Rattle.std.specs.Prelude.{position}
+use Rattle.std.specs.List.{position_or_len}
+use Rattle.std.specs.Option.{unwrap_or}
+use Rattle.division_table.specs.Division.{interval_of}
+
+-- from y up to g
+pub upward : (P : ℕ → Type 0) (y g : ℕ) → P y → ((x : ℕ) → y ≤ x → x < g → P x → P (x + 1)) → (x : ℕ) → y ≤ x → x ≤ g → P x
+upward P y g b s zero l h = let q : y ≡ 0 = omega arith in rw q at b
+upward P y g b s (suc x) l h =
+    either (eq-or-lt_of_le l) (λ e. rw e at b) (λ k. rw add-one at (s x (omega arith) (omega arith) (upward P y g b s x (omega arith) (omega arith))))
 
 -- offers to the lanes
-pub keep_yes : (b x : ℕ) {t : Bool} → t ≡ ltb x b → t ≡ true → x ≡ min b x
-keep_yes b x e h = omega (arith, ltb-true x b (sym e ∙ h))
-
-pub keep_no : (b x : ℕ) {t : Bool} → t ≡ ltb x b → t ≡ false → b ≡ min b x
-keep_no b x e h = omega (arith, ltb-false x b (sym e ∙ h))
-
-pub relaxed_none : {at w : ℕ} {cuts l : List ℕ} → length l ≡ 16 → Relaxed at w cuts 0 l l
-relaxed_none t = record { tall = t; here = λ j h. absurd (omega arith); other = λ j h. refl }
-
-pub relaxed_turn : {at w n r : ℕ} {cuts l l' : List ℕ} → n < 16 → Relaxed at w cuts n l l' → r ≡ min (get_or l' n 0) (w + get_or cuts (at + n) 0) → Relaxed at w cuts (n + 1) l (set l' n r)
-relaxed_turn {at} {w} {n} {r} {cuts} {l} {l'} h R e =
-    record {
-      tall = length-set l' n r ∙ R.tall;
-      here = λ j k.
-          either (eq_or_ne j n)
-          (λ q. rw (q, get_or-set_same l' n r 0 (omega (arith, R.tall))) (e ∙ rw (R.other n (omega arith))))
-          (λ q. get_or-set_other l' n j r 0 q ∙ R.here j (omega arith));
-      other = λ j k. get_or-set_other l' n j r 0 (λ q. omega arith) ∙ R.other j (omega arith);
-    }
-
 pub relaxed_low : {at w n : ℕ} {cuts l l' : List ℕ} → LowCuts l → Relaxed at w cuts n l l' → LowCuts l'
 relaxed_low {at} {w} {n} {cuts} {l} {l'} L R =
     record {
@@ -48,25 +41,11 @@ relaxed_low {at} {w} {n} {cuts} {l} {l'} L R =
     }
 
 -- offers at or above every lane
-pub relaxed_same : {at w n m : ℕ} {cuts l : List ℕ} → length l ≡ 16 → Topped n l m → m ≤ w → Relaxed at w cuts n l l
-relaxed_same t T h = record { tall = t; here = λ j k. omega (arith, T.top j k); other = λ j k. refl }
+pub relaxed_same : {at w n m : ℕ} {cuts l : List ℕ} → Topped n l m → m ≤ w → Relaxed at w cuts n l l
+relaxed_same T h = record { tall = refl; here = λ j k. omega (arith, T.top j k); other = λ j k. refl }
 
-pub topped_relaxed : {at w n m : ℕ} {cuts l l' : List ℕ} → Topped n l m → Relaxed at w cuts n l l' → Topped n l' m
-topped_relaxed T R = record { top = λ j k. omega (arith, T.top j k, R.here j k) }
-
-pub topped_none : {n : ℕ} → n ≤ 16 → Topped n (replicate 16 no_cut) no_cut
-topped_none h = record { top = λ j k. omega (arith, get_or-replicate 16 j no_cut 0 (omega arith)) }
-
--- m is the higher of b and x
-pub higher : {b m x : ℕ} {t : Bool} → t ≡ ltb b x → ((t ≡ true) × (m ≡ x)) ⊎ ((t ≡ false) × (m ≡ b)) → (b ≤ m) × (x ≤ m) × ((m ≡ x) ⊎ (m ≡ b))
-higher {b} {m} {x} e h =
-    either h
-    (λ a. let k = ltb-true b x (sym e ∙ a.0) in let q = a.1 in (omega arith, omega arith, inl q))
-    (λ a. let k = ltb-false b x (sym e ∙ a.0) in let q = a.1 in (omega arith, omega arith, inr q))
-
--- one entry more, none above m
-pub top_turn : (l : List ℕ) {b m n : ℕ} → ((i : ℕ) → i < n → get_or l i 0 ≤ b) → b ≤ m → get_or l n 0 ≤ m → (i : ℕ) → i < n + 1 → get_or l i 0 ≤ m
-top_turn l {b} {m} {n} h le k i li = either (eq_or_ne i n) (λ q. rw q k) (λ q. omega (arith, h i (omega arith)))
+pub topped_none : (n : ℕ) → Topped n (replicate n no_cut) no_cut
+topped_none n = record { top = λ j k. omega (arith, get_or-replicate n j no_cut 0 k) }
 
 -- the least of a family: members that are none do not count
 lowest_le : (n : ℕ) (f : ℕ → ℕ) → lowest n f ≤ no_cut
@@ -168,14 +147,14 @@ module _ (bound y from n : ℕ) (cost away into cuts : List ℕ) where
   abbrev going : ℕ → ℕ → ℕ
   going j = onward bound y cost away into (λ z. get_or cuts (z * 17 + j) 0)
 
-  pub lanes_none : n ≤ 16 → Lanes bound y from n (y + 1) cost away into cuts (replicate 16 no_cut)
+  pub lanes_none : Lanes bound y from n (y + 1) cost away into cuts (replicate n no_cut)
   unfolding onward lowest
-  lanes_none few =
+  lanes_none =
       record {
-        tall = refl;
-        low = low_none 16;
+        tall = length-replicate n no_cut;
+        low = low_none n;
         here = λ j h.
-            get_or-replicate 16 j no_cut 0 (omega arith)
+            get_or-replicate n j no_cut 0 h
             ∙ sym (lowest_skip (going (from + j)) 0 (y + 1) (omega arith) (λ i li k. rw (le-ltb y i (omega arith))));
       }
 
@@ -185,7 +164,7 @@ module _ (bound y from n : ℕ) (cost away into cuts : List ℕ) where
     lanes_turn w l' h e R =
         let q : span away y x - span into y x ≡ w = omega arith in
         record {
-          tall = R.tall;
+          tall = R.tall ∙ L.tall;
           low = relaxed_low L.low R;
           here = λ j k.
               let p : x * 17 + (from + j) ≡ x * 17 + from + j = omega arith in
@@ -205,28 +184,63 @@ module _ (bound y from n : ℕ) (cost away into cuts : List ℕ) where
               ∙ sym (lowest_skip (going (from + j)) x g k (λ i li gi. rw (lt-ltb y i (omega arith), within_no cost bound y i (omega (arith, span_mono cost y x i li)))));
         }
 
--- lanes stored
-pub stored_none : {at : ℕ} {lanes cuts : List ℕ} → LowCuts cuts → LanesStored at 0 lanes cuts cuts
-stored_none L = record { tall = refl; low = L; here = λ j h. absurd (omega arith); other = λ i h. refl }
+-- ends passed over offer no lane anything
+pub lanes_pass : {bound y from n x x' m : ℕ} {cost away into cuts l : List ℕ} → y < x → x ≤ x' → Lanes bound y from n x cost away into cuts l → Topped n l m
+    → ((z : ℕ) → x ≤ z → z < x' → (span cost y z ≤ bound) × (m + span into y z ≤ span away y z)) → Lanes bound y from n x' cost away into cuts l
+lanes_pass {bound} {y} {from} {n} {x} {x'} {m} {cost} {away} {into} {cuts} {l} lt le L T each =
+    upward (λ z. Lanes bound y from n z cost away into cuts l) x x' L
+    (λ z a b K.
+    let w = span away y z - span into y z in
+    let h = each z a b in
+    lanes_turn bound y from n cost away into cuts z l (omega arith) K w l h.0 (omega (arith, h.1)) (relaxed_same T (omega (arith, h.1))))
+    x' le (omega arith)
 
-pub stored_turn : {at n : ℕ} {lanes cuts cuts' : List ℕ} → LowCuts lanes → at + (n + 1) < length cuts → LanesStored at n lanes cuts cuts' → LanesStored at (n + 1) lanes cuts (set cuts' (at + (n + 1)) (get_or lanes n 0))
-stored_turn {at} {n} {lanes} {cuts} {cuts'} L la S =
-    let i = at + (n + 1) in
-    let r = get_or lanes n 0 in
+-- lanes stored: a part put into the cuts
+module _ (a k : ℕ) (xs ys : List ℕ) (e : length ys ≡ k) (h : a + k ≤ length xs) where
+  front : length (take a xs) ≡ a
+  front = length-take-le a xs (omega arith)
+
+  put_below : (i : ℕ) → i < a → get_or (put_mid a k xs ys) i 0 ≡ get_or xs i 0
+  put_below i l = get_or-append (take a xs) _ 0 i (omega (arith, front)) ∙ get_or-take a xs i 0 l
+
+  put_within : (i : ℕ) → i < k → get_or (put_mid a k xs ys) (a + i) 0 ≡ get_or ys i 0
+  put_within i l =
+      let q : a + i - length (take a xs) ≡ i = omega (arith, front) in
+      get_or-append_right (take a xs) _ (a + i) 0 (omega (arith, front)) ∙ rw q (get_or-append ys _ 0 i (omega arith))
+
+  put_past : (i : ℕ) → a + k ≤ i → get_or (put_mid a k xs ys) i 0 ≡ get_or xs i 0
+  put_past i l =
+      let q : i - length (take a xs) ≡ i - a = omega (arith, front) in
+      let r : a + (k + (i - a - length ys)) ≡ i = omega arith in
+      get_or-append_right (take a xs) _ i 0 (omega (arith, front)) ∙ rw q (get_or-append_right ys _ (i - a) 0 (omega arith))
+      ∙ get_or-drop k (drop a xs) (i - a - length ys) 0 ∙ get_or-drop a xs (k + (i - a - length ys)) 0 ∙ rw r
+
+pub lanes_stored : {at k n : ℕ} {lanes cuts part : List ℕ} → LowCuts lanes → LowCuts cuts → length lanes ≡ n → at + n < length cuts → part ≡ lanes → k ≡ n
+    → LanesStored at n lanes cuts (put_mid (at + 1) k cuts part)
+lanes_stored {at} {k} {n} {lanes} {cuts} {part} L C t h e q =
     record {
-      tall = length-set cuts' i r ∙ S.tall;
-      low = record { low = set_at_most cuts' i r no_cut no_cut (omega arith) (L.low n) S.low.low };
-      here = λ j k.
-          either (eq_or_ne j n)
-          (λ q. rw q (get_or-set_same cuts' i r 0 (omega (arith, S.tall))))
-          (λ q. get_or-set_other cuts' i (at + (j + 1)) r 0 (λ e. q (omega arith)) ∙ S.here j (omega arith));
-      other = λ z h. get_or-set_other cuts' i z r 0 (λ e. h n (omega arith) e) ∙ S.other z (λ j k e. h j (omega arith) e);
+      tall = same_len_mid (at + 1) k cuts part (omega (arith, ap length e, length-take-le k (drop (at + 1) cuts) (omega (arith, length-drop (at + 1) cuts))));
+      low = record {
+        low = λ i.
+            by (ltb i (at + 1))
+            (λ u. omega (arith, put_below (at + 1) k cuts part (omega (arith, ap length e)) (omega arith) i (ltb-true i (at + 1) u), C.low i))
+            (λ u. let a = ltb-false i (at + 1) u in
+            by (ltb i (at + 1 + k))
+            (λ v. let b = ltb-true i (at + 1 + k) v in let z : at + 1 + (i - (at + 1)) ≡ i = omega arith in
+            omega (arith, L.low (i - (at + 1)), rw z at (put_within (at + 1) k cuts part (omega (arith, ap length e)) (omega arith) (i - (at + 1)) (omega arith)), ap (λ (l : List ℕ). get_or l (i - (at + 1)) 0) e))
+            (λ v. omega (arith, put_past (at + 1) k cuts part (omega (arith, ap length e)) (omega arith) i (ltb-false i (at + 1 + k) v), C.low i)));
+      };
+      here = λ j l. let z : at + (j + 1) ≡ at + 1 + j = omega arith in rw z (put_within (at + 1) k cuts part (omega (arith, ap length e)) (omega arith) j (omega arith) ∙ rw e);
+      other = λ i o.
+          by (ltb i (at + 1))
+          (λ u. put_below (at + 1) k cuts part (omega (arith, ap length e)) (omega arith) i (ltb-true i (at + 1) u))
+          (λ u. let a = ltb-false i (at + 1) u in
+          by (ltb i (at + 1 + k))
+          (λ v. let b = ltb-true i (at + 1 + k) v in absurd (o (i - (at + 1)) (omega arith) (omega arith)))
+          (λ v. put_past (at + 1) k cuts part (omega (arith, ap length e)) (omega arith) i (ltb-false i (at + 1 + k) v)));
     }
 
 -- columns filled
-pub filled_none : {bound y from n g : ℕ} {cost away into cuts : List ℕ} → Table g cuts → n ≡ 0 → ColumnsFilled bound y from n g cost away into cuts cuts
-filled_none T e = record { table = T; here = λ j h. inr (refl, λ k. omega arith); other = λ i h. refl }
-
 pub filled_is : {bound y from n g : ℕ} {cost away into cuts cuts' lanes : List ℕ} → from + n ≤ 16 → Table g cuts → Lanes bound y from n g cost away into cuts lanes
     → LanesStored (y * 17 + from) n lanes cuts cuts' → ColumnsFilled bound y from n g cost away into cuts cuts'
 filled_is {bound} {y} {from} {n} {g} {cost} {away} {into} {cuts} {cuts'} {lanes} few T L S =
@@ -247,27 +261,6 @@ filled_is {bound} {y} {from} {n} {g} {cost} {away} {into} {cuts} {cuts'} {lanes}
         rw p (S.here (j - from) (omega arith) ∙ L.here (j - from) (omega arith) ∙ ap (lowest_from bound y g cost away into cuts) q)
 
 -- more columns than are wanted
-pub filled_more : {bound y from from' n n' g : ℕ} {cost away into cuts cuts' : List ℕ} → from' ≤ from → from + n ≤ from' + n' → ColumnsFilled bound y from' n' g cost away into cuts cuts' → ColumnsFilled bound y from n g cost away into cuts cuts'
-filled_more a b F =
-    record { table = F.table; here = λ j h. either (F.here j h) inl (λ e. inr (e.0, λ k. let l = e.1 (omega arith) in omega arith)); other = F.other }
-
-pub column_is : {bound rest y n from wide before after g r : ℕ} {cost away into cuts cuts' : List ℕ} → y < g → n ≤ 16 → from ≤ after - 2 → n ≤ before + from + wide → ColumnsFilled bound y from wide g cost away into cuts cuts'
-    → ((bound < rest) × (r ≡ no_cut)) ⊎ ((rest ≤ bound) × (r ≡ 0)) → Column bound rest y n before after g cost away into cuts (set cuts' (y * 17) r)
-column_is {bound} {rest} {y} {n} {from} {wide} {before} {after} {g} {r} {cost} {away} {into} {cuts} {cuts'} ly few low high F h =
-    let at = y * 17 in
-    let T = F.table in
-    let lr : r ≤ no_cut = either h (λ a. omega (arith, a.1)) (λ a. omega (arith, a.1)) in
-    let same : (i : ℕ) → (i ≡ at → ⊥) → get_or (set cuts' at r) i 0 ≡ get_or cuts' i 0 = λ i q. get_or-set_other cuts' at i r 0 q in
-    record {
-      table = record { long = omega (arith, T.long, length-set cuts' at r); low = record { low = set_at_most cuts' at r no_cut no_cut (omega arith) lr T.low.low } };
-      last = get_or-set_same cuts' at r 0 (omega (arith, T.long)) ∙ either h (λ a. rw (lt-leb rest bound a.0) a.1) (λ a. rw (le-leb rest bound a.0) a.1);
-      here = λ j k.
-          either (F.here j (omega arith))
-          (λ e. inl (same _ (λ q. omega arith) ∙ e))
-          (λ e. inr (same _ (λ q. omega arith) ∙ e.0, by (leb after (j + 2)) (λ t. absurd (omega (arith, leb-true after (j + 2) t, e.1 (omega (arith, leb-true after (j + 2) t))))) (λ t. leb-false after (j + 2) t)));
-      other = λ i k. same i (λ q. omega (arith, k (omega arith))) ∙ F.other i k;
-    }
-
 -- following the cuts
 pub next_within : (g : ℕ) (out : ℕ → ℕ → ℕ) (cuts : List ℕ) (j y : ℕ) → next_by g out cuts j y ≤ g
 unfolding next_by
@@ -281,16 +274,17 @@ pub starts_end : (g : ℕ) (out : ℕ → ℕ → ℕ) (cuts : List ℕ) (n i y 
 unfolding starts_by
 starts_end g out cuts n i y l = let q : n - i ≡ 0 = omega arith in rw q
 
-pub length_starts : (g : ℕ) (out : ℕ → ℕ → ℕ) (cuts : List ℕ) (j y : ℕ) → length (starts_by g out cuts j y) ≡ j
-unfolding starts_by
-length_starts g out cuts zero y = refl
-length_starts g out cuts (suc j) y = ap suc (length_starts g out cuts j (next_by g out cuts j y))
-
 -- the search for an interval
-pub labelled : {starts : List ℕ} {n p r : ℕ} → n ≤ 16 → length starts ≡ 16 → r ≡ first_to n (λ i. ltb p (get_or starts i 0)) → InInterval starts n p r
-labelled {starts} {n} {p} {r} l e q =
-    let d = length-take-le n starts (omega arith) in
-    record {
-      is = q ∙ sym (interval_first (take n starts) p ∙ rw d (first_to_ext n _ _ (λ i h. rw (get_or-take n starts i 0 h))));
-      low = omega (arith, first_to_le n (λ i. ltb p (get_or starts i 0)));
-    }
+interval_prefix : (d : List ℕ) (p : ℕ) → position_or_len (ltb p) d ≡ interval_of d p
+unfolding interval_of
+interval_prefix [] p = refl
+interval_prefix (x ∷ d) p = by (ltb p x) (λ t. rw t) (λ t. rw (t, interval_prefix d p) (omega arith))
+
+pub labelled : {starts : List ℕ} {p r : ℕ} → r ≡ unwrap_or (position (ltb p) starts) (length starts) → InInterval starts (length starts) p r
+labelled {starts} {p} {r} q =
+    let k = position_or_len (ltb p) starts in
+    let n = length starts in
+    let e = interval_prefix starts p in
+    let le : k ≤ n = omega (arith, e, interval_first starts p, first_to_le n (λ i. ltb p (get_or starts i 0))) in
+    let is : r ≡ k = by (ltb k n) (λ t. rw t at q) (λ t. (rw t at q) ∙ omega (arith, ltb-false k n t)) in
+    record { is = is ∙ e ∙ ap (λ (l : List ℕ). interval_of l p) (sym (take_all n starts (omega arith))); low = omega arith }

@@ -1,5 +1,5 @@
 -- How many intervals the positions before or after a place take at least.
-use Rattle.std.specs.Prelude.{ℕ, ◌+◌, ◌≤◌, ◌<◌, ◌≡◌, Bool, true, List, length, get_or}
+use Rattle.std.specs.Prelude.{ℕ, ◌+◌, ◌≤◌, ◌<◌, ◌≡◌, ◌⊎◌, Bool, true, List, length, get_or}
 use Rattle.division_table.specs.Promises.{span, within}
 
 -- none before position 0; one more where an interval that passes the test leads there
@@ -13,6 +13,10 @@ pub record After (g : ℕ) (ok : ℕ → ℕ → Bool) (y : ℕ) (after : List �
   pub tall : length after ≡ 512
   pub last : (z : ℕ) → y ≤ z → z < g → ok z g ≡ true → get_or after z 0 ≤ 1
   pub step : (z x : ℕ) → y ≤ z → z ≤ x → x < g → ok z x ≡ true → get_or after z 0 ≤ get_or after x 0 + 1
+
+-- what a turn leaves of the count so far: a filled interval takes a position of cost c too, or it is past the bound and the next starts
+abbrev pub Turned : ℕ → ℕ → ℕ → ℕ → ℕ → ℕ → Type 0
+Turned bound c load load' count count' = ((bound < load + c) × (load' ≡ c) × (count' ≡ count + 1)) ⊎ ((load + c ≤ bound) × (load' ≡ load + c) × (count' ≡ count))
 
 -- The loops. `count` filled intervals hold the positions below x, the last from `start` on:
 pub record PackedBelow (cost : List ℕ) (bound x load count : ℕ) (before : List ℕ) : Type 0 where

@@ -1,3 +1,4 @@
 pub mod Division
 pub mod Promises
 pub mod Fewest
+pub mod Weighed

@@ -34,9 +34,9 @@ lowest (suc n) f = min (lowest n f) (f n)
 pub record LowCuts (cuts : List ℕ) : Type 0 where
   pub low : (i : ℕ) → get_or cuts i 0 ≤ no_cut
 
--- the first n of 16 lanes have taken the offer to go on at the position whose cuts stand from `at` on, at w more
+-- the first n lanes have taken the offer to go on at the position whose cuts stand from `at` on, at w more
 pub record Relaxed (at w : ℕ) (cuts : List ℕ) (n : ℕ) (lanes lanes' : List ℕ) : Type 0 where
-  pub tall : length lanes' ≡ 16
+  pub tall : length lanes' ≡ length lanes
   pub here : (j : ℕ) → j < n → get_or lanes' j 0 ≡ min (get_or lanes j 0) (w + get_or cuts (at + j) 0)
   pub other : (j : ℕ) → n ≤ j → get_or lanes' j 0 ≡ get_or lanes j 0
 
@@ -71,7 +71,7 @@ lowest_from bound y x cost away into cuts j = lowest x (onward bound y cost away
 
 -- n lanes, of from + 1 starts on
 pub record Lanes (bound y from n x : ℕ) (cost away into cuts lanes : List ℕ) : Type 0 where
-  pub tall : length lanes ≡ 16
+  pub tall : length lanes ≡ n
   pub low : LowCuts lanes
   pub here : (j : ℕ) → j < n → get_or lanes j 0 ≡ lowest_from bound y x cost away into cuts (from + j)
 

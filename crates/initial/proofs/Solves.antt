@@ -1,22 +1,19 @@
 -- What the filled table says of the least division.
-use Prim.Native.Nat.{ℕ, ◌+◌, ◌*◌, ◌≤◌, ◌<◌}
+use Prim.Native.Nat.{ℕ, ◌+◌, ◌≤◌, ◌<◌}
 use mathlib.Core.Path.{◌≡◌, ap, ◌∙◌}
 use mathlib.Core.List.{List}
 use native.Mathlib.Omega.{arith}
 use native.Mathlib.Nat.{zero-add}
-use lib.ListN.{length, get_or, take, replicate, length-replicate, get_or-replicate}
-use Rattle.folds.specs.Fold.{over}
-use Rattle.folds.proofs.Slices.{take-over, length_over}
+use lib.ListN.{get_or}
 use Rattle.graph.specs.Graph.{Graph, vertices, cost_in}
 use Rattle.graph.specs.Totals.{Totals}
 use Rattle.division_table.specs.Division.{none, some, between}
-use Rattle.division_table.specs.Promises.{best, no_cut, span, within, Table, Blank, starts_by}
+use Rattle.division_table.specs.Promises.{best, no_cut, span, within, starts_by}
 use Rattle.division_table.specs.Fewest.{After}
 use Rattle.division_table.proofs.Best.{best_same}
 use Rattle.division_table.proofs.Cells.{read_some, read_none}
 use Rattle.division_table.proofs.Fills.{within_monotone, too_few}
 use Rattle.division_table.proofs.Spans.{span_between, between_small}
-use Rattle.division_table.proofs.Tables.{low_none, length_starts}
 use Rattle.initial.specs.Initial.{roomy}
 use Rattle.division_scan.specs.Scan.{Positioned, leaving_by, Costs, CutsKnown}
 use Rattle.division_scan.proofs.Flows.{leaving_small}
@@ -35,18 +32,7 @@ module _ {places starts ends widths cost : List ℕ} {bound g : ℕ} {away cuts 
       read_some g (within cost bound) (leaving_by places starts ends widths) (leaving_small P) (within_monotone cost bound) cuts n (omega arith) T.before T.counts T.done n 0 (omega (arith, T.counts.first)) some-place (rw (zero-add n) h)
       ∙ ap (λ (i : ℕ). some (get_or cuts i 0) (starts_by g (leaving_by places starts ends widths) cuts n 0)) (zero-add n)
 
--- the starts that were written
-module _ (g : ℕ) (out : ℕ → ℕ → ℕ) (cuts first : List ℕ) (n : ℕ) where
-  pub starts_front : take n (over (starts_by g out cuts n 0) first) ≡ starts_by g out cuts n 0
-  starts_front = take-over (starts_by g out cuts n 0) first n (length_starts g out cuts n 0)
-
-  pub starts_length : length first ≡ 16 → n < 16 → length (over (starts_by g out cuts n 0) first) ≡ 16
-  starts_length t l = length_over (starts_by g out cuts n 0) first (omega (arith, length_starts g out cuts n 0)) ∙ t
-
 -- the cuts before any is known
-pub table_none : {g : ℕ} (k : ℕ) → (g + 1) * 17 ≤ k → Table g (replicate k no_cut) × Blank g (replicate k no_cut)
-table_none k h = (record { long = rw length-replicate h; low = low_none k }, record { blank = λ i l. get_or-replicate k i no_cut 0 (omega arith) })
-
 -- the costs of the positions
 module _ (G : Graph) {g : ℕ} {places cost : List ℕ} (few : vertices G ≤ 512) (small : g ≤ 512) (C : Totals places G.costs 512 (vertices G) cost) where
   cost_between : (y x : ℕ) → y ≤ x → x ≤ g → span cost y x ≡ between (vertices G) (λ v. get_or places v 0) (λ v. get_or G.costs v 0) y x

@@ -7,7 +7,9 @@ use Rattle.division_scan.specs.Scan.{Gathered}
 use Rattle.division_scan.proofs.gather.Given as goal
 
 abbrev pub invariant-loop-j : goal.invariant-loop-j
-invariant-loop-j l = (l.m ≡ length l.starts) × On (λ i. get_or l.starts i 0) l.m (get_or l.order l.y 0) l.j × Gathered l.places l.starts l.ends l.widths l.y l.j l.initial.into l.into l.sum
+invariant-loop-j l =
+    (l.m ≡ length l.e.starts.now) × On (λ i. get_or l.e.starts.now i 0) l.m (get_or l.e.order.now l.y 0) l.j
+    × Gathered l.e.places.now l.e.starts.now l.e.ends.now l.e.widths.now l.y l.j l.initial.into l.into l.sum
 
 abbrev pub decreases-loop-j : goal.decreases-loop-j
 decreases-loop-j l = l.m - l.j

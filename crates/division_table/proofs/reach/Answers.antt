@@ -1,36 +1,19 @@
-use mathlib.Core.Path.{◌≡◌}
 use native.Mathlib.Omega.{arith}
-use Rattle.division_table.proofs.Tables.{span_start, lanes_none, lanes_turn, lanes_over, topped_none, load_next, out_first, out_next}
+use Rattle.division_table.proofs.Tables.{lanes_none, lanes_turn, lanes_pass, lanes_over, topped_none}
 use Rattle.division_table.proofs.reach.Goals as goal
 
-pub overflow_sub-out : goal.overflow_sub-out
-overflow_sub-out c = out_first c.requires.run_weights c.requires.y_lt_g.0
+pub loop-e-init : goal.loop-e-init
+loop-e-init g c = let q = c.first_end-e.ensures.1 in (c.first_end-e.ensures.0, rw q (lanes_none _ _ _ _ _ _ _ _), topped_none _)
 
-pub loop-x-init : goal.loop-x-init
-loop-x-init c = (omega arith, omega arith, span_start c.args.cost.now c.args.y, omega (arith, out_first c.requires.run_weights c.requires.y_lt_g.0, span_start c.args.away.now c.args.y, span_start c.args.into.now c.args.y), lanes_none _ _ _ _ _ _ _ _ (omega arith), topped_none (omega arith))
+pub loop-e-preserved : goal.loop-e-preserved
+loop-e-preserved g c =
+    let E = c.loop-e.invariant.0 in
+    let P = c.pass_over-e.ensures.1 in
+    let turned = lanes_turn _ _ _ _ _ _ _ _ _ _ E.past c.loop-e.invariant.1 _ _ (omega (arith, E.loads)) E.outs c.offer-most.ensures.relaxed in (
+      c.pass_over-e.ensures.0,
+      lanes_pass (omega (arith, E.past)) (omega (arith, P.upto, c.next_end.ensures.1)) turned c.offer-most.ensures.topped_2 (rw c.next_end.ensures.1 at P.each),
+      c.offer-most.ensures.topped_2,
+    )
 
-pub returns-then-load-bound : goal.returns-then-load-bound
-returns-then-load-bound c = lanes_over _ _ _ _ _ _ _ _ _ _ c.loop-x.invariant.0 c.loop-x.invariant.4 _ c.loop-x.invariant.1 (omega arith)
-
-pub offer-most-requires : goal.offer-most-requires
-offer-most-requires c = record {
-  low_cuts = c.requires.table.low;
-  low_cuts_2 = c.loop-x.invariant.4.low;
-  n_in_bounds = (omega (arith, c.requires.table.long), (out_next c.requires.run_weights _ _ c.loop-x.invariant.0 c.loop-x-test.true c.loop-x.invariant.3).0, omega arith, c.loop-x.invariant.4.tall);
-  topped = c.loop-x.invariant.5;
-}
-
-pub overflow_add-load : goal.overflow_add-load
-overflow_add-load c = omega (arith, (load_next c.requires.run_weights _ _ c.loop-x.invariant.0 c.loop-x-test.true c.loop-x.invariant.2).1)
-
-pub overflow_add-out : goal.overflow_add-out
-overflow_add-out c = omega (arith, (out_next c.requires.run_weights _ _ c.loop-x.invariant.0 c.loop-x-test.true c.loop-x.invariant.3).1)
-
-pub overflow_sub-out-in-loop-x : goal.overflow_sub-out-in-loop-x
-overflow_sub-out-in-loop-x c = (out_next c.requires.run_weights _ _ c.loop-x.invariant.0 c.loop-x-test.true c.loop-x.invariant.3).2
-
-pub loop-x-preserved : goal.loop-x-preserved
-loop-x-preserved c = (omega arith, omega arith, (load_next c.requires.run_weights _ _ c.loop-x.invariant.0 c.loop-x-test.true c.loop-x.invariant.2).0, (out_next c.requires.run_weights _ _ c.loop-x.invariant.0 c.loop-x-test.true c.loop-x.invariant.3).3, lanes_turn _ _ _ _ _ _ _ _ _ _ c.loop-x.invariant.0 c.loop-x.invariant.4 _ _ (omega arith) c.loop-x.invariant.3 c.offer-most.ensures.relaxed, c.offer-most.ensures.topped_2)
-
-pub returns : goal.returns
-returns c = let e : c.loop-x.x ≡ c.args.g = omega arith in rw e at c.loop-x.invariant.4
+pub returns-else-e-w : goal.returns-else-e-w
+returns-else-e-w g c = let E = c.loop-e.invariant.0 in lanes_over _ _ _ _ _ _ _ _ _ _ E.past c.loop-e.invariant.1 _ E.inside (omega (arith, E.loads))

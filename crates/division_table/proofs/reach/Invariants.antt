@@ -1,11 +1,12 @@
--- load and out are the cost of the interval up to x and what leaves it; the lanes have the offers of the starts below x, and none is above `most`
-use Prim.Native.Nat.{◌+◌, ◌-◌, ◌≤◌, ◌<◌}
-use mathlib.Core.Path.{◌≡◌}
-use Rattle.division_table.specs.Promises.{span, Lanes, Topped}
+-- the lanes have the offers of the starts below e, and none is above `most`
+use Prim.Native.Nat.{◌-◌}
+use Rattle.division_table.specs.Promises.{Topped}
+use Rattle.division_table.specs.Weighed.{EndOf}
+use Rattle.division_table.specs.Promises.{Lanes}
 use Rattle.division_table.proofs.reach.Given as goal
 
-abbrev pub invariant-loop-x : goal.invariant-loop-x
-invariant-loop-x l = (l.y < l.x) × (l.x ≤ l.g) × (l.load ≡ span l.cost l.y l.x) × (l.out + span l.into l.y l.x ≡ span l.away l.y l.x) × Lanes l.bound l.y l.from l.n l.x l.cost l.away l.into l.cut l.best × Topped l.n l.best l.most
+abbrev pub invariant-loop-e : goal.invariant-loop-e
+invariant-loop-e g l = EndOf l.w l.e × Lanes l.w.bound l.w.y l.from g.row.N l.e.x l.w.cost.now l.w.away.now l.w.into.now l.cut l.best × Topped g.row.N l.best l.most
 
-abbrev pub decreases-loop-x : goal.decreases-loop-x
-decreases-loop-x l = l.g - l.x
+abbrev pub decreases-loop-e : goal.decreases-loop-e
+decreases-loop-e g l = l.w.g - l.e.x

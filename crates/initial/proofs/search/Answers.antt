@@ -1,30 +1,21 @@
--- no cut is known before
+-- the table has the least cut; where there is one, its starts follow
 use native.Mathlib.Omega.{arith}
-use Rattle.initial.proofs.Solves.{table_none}
+use Prim.Native.Nat.{ℕ}
+use mathlib.Core.Path.{refl, ◌∙◌, ap}
+use mathlib.Core.List.{List}
+use Rattle.folds.specs.Fold.{over, zeros}
+use lib.Seq.{length-take-le}
+use Rattle.division_scan.specs.Placed.{starts_in}
+use Rattle.initial.specs.Initial.{parts_of}
+use Rattle.initial.proofs.Solves.{solved_none, solved_some}
 use Rattle.initial.proofs.search.Goals as goal
 
-pub search_in-requires : goal.search_in-requires
-search_in-requires c = let q = table_none 1105 (omega (arith, c.requires.g_nonzero.1)) in
-    record {
-      positioned = c.requires.positioned;
-      linked_by = c.requires.linked_by;
-      costs = c.requires.costs;
-      before = c.requires.before;
-      after = c.requires.after;
-      table = q.0;
-      blank = q.1;
-      g_nonzero = c.requires.g_nonzero;
-    }
+pub returns-then-c-ge-NO_CUT : goal.returns-then-c-ge-NO_CUT
+returns-then-c-ge-NO_CUT g c =
+    rw (solved_none c.args.edges.positioned c.args.n c.requires.g_nonzero.1 (omega arith) c.tabulate.ensures c.if-c-ge-NO_CUT.true) (record { is = refl; table = refl })
 
-pub search_in-requires-2 : goal.search_in-requires-2
-search_in-requires-2 c = let q = table_none 8721 (omega (arith, c.requires.g_nonzero.1)) in
-    record {
-      positioned = c.requires.positioned;
-      linked_by = c.requires.linked_by;
-      costs = c.requires.costs;
-      before = c.requires.before;
-      after = c.requires.after;
-      table = q.0;
-      blank = q.1;
-      g_nonzero = c.requires.g_nonzero;
-    }
+pub returns : goal.returns
+unfolding zeros
+returns g c =
+    rw (solved_some c.args.edges.positioned c.args.n c.requires.g_nonzero.1 (omega arith) c.tabulate.ensures c.if-c-ge-NO_CUT.false)
+    (record { is = refl; table = c.label.ensures ∙ ap (λ (d : List ℕ). over (parts_of c.args.places.now d) c.args.table.now) (c.follow.ensures ∙ ap (λ (i : ℕ). starts_in c.args.edges c.tabulate.new.cut i) (length-take-le c.args.n (zeros 16) (omega arith))) })

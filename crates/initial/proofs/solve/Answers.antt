@@ -6,30 +6,55 @@ use Rattle.graph.proofs.Totals.{zero_sums}
 use Rattle.initial.proofs.Solves.{cost_light, cost_best, solved_few}
 use Rattle.initial.proofs.solve.Goals as goal
 
-pub sum_costs-requires : goal.sum_costs-requires
-sum_costs-requires c = record {
-  keyed = c.requires.keyed;
-  by_index = zero_sums 512;
-}
+pub sum_costs-requires-clause-by_index : goal.sum_costs-requires-clause-by_index
+sum_costs-requires-clause-by_index c = zero_sums 512
 
 pub fewest_after-requires : goal.fewest_after-requires
-fewest_after-requires c = (c.requires.g_nonzero.1, (cost_light (graph_of c.args.costs.now c.args.from.now c.args.to.now c.args.width.now) c.requires.keyed.few c.requires.g_nonzero.1 c.sum_costs.ensures (λ k. omega (arith, c.type_inv.costs k))).light, refl)
+fewest_after-requires c =
+    let e = c.args.edges in
+    let G = graph_of c.args.costs.now e.starts.now e.ends.now e.widths.now in
+    (e.few, (cost_light G c.requires.keyed.few e.few c.sum_costs.ensures (λ k. omega (arith, c.type_inv.costs k))).light)
 
-pub returns-then-n-wide : goal.returns-then-n-wide
-returns-then-n-wide c = rw (solved_few (graph_of c.args.costs.now c.args.from.now c.args.to.now c.args.width.now) c.requires.keyed.few c.requires.g_nonzero.1 c.sum_costs.ensures c.args.bound _ c.args.n c.fewest_after.ensures (omega (arith, c.wide.ensures))) (record { is = refl; table = refl })
+pub returns-then-n-from : goal.returns-then-n-from
+returns-then-n-from c =
+    let e = c.args.edges in
+    let G = graph_of c.args.costs.now e.starts.now e.ends.now e.widths.now in
+    rw (solved_few G c.requires.keyed.few e.few c.sum_costs.ensures c.args.bound _ c.args.n c.fewest_after.ensures (omega arith)) (record { is = refl; table = refl })
 
 pub fewest_before-requires : goal.fewest_before-requires
-fewest_before-requires c = (c.requires.g_nonzero.1, (cost_light (graph_of c.args.costs.now c.args.from.now c.args.to.now c.args.width.now) c.requires.keyed.few c.requires.g_nonzero.1 c.sum_costs.ensures (λ k. omega (arith, c.type_inv.costs k))).light, refl)
+fewest_before-requires c =
+    let e = c.args.edges in
+    let G = graph_of c.args.costs.now e.starts.now e.ends.now e.widths.now in
+    (e.few, (cost_light G c.requires.keyed.few e.few c.sum_costs.ensures (λ k. omega (arith, c.type_inv.costs k))).light)
 
-pub search-requires : goal.search-requires
-search-requires c = record {
-  positioned = c.requires.positioned;
-  linked_by = c.requires.linked_by;
-  costs = cost_light (graph_of c.args.costs.now c.args.from.now c.args.to.now c.args.width.now) c.requires.keyed.few c.requires.g_nonzero.1 c.sum_costs.ensures (λ k. omega (arith, c.type_inv.costs k));
-  before = c.fewest_before.ensures;
-  after = c.fewest_after.ensures;
-  g_nonzero = c.requires.g_nonzero;
-}
+pub invariant_of-limits : goal.invariant_of-limits
+invariant_of-limits c =
+    let e = c.args.edges in
+    let G = graph_of c.args.costs.now e.starts.now e.ends.now e.widths.now in
+    record {
+      costs = cost_light G c.requires.keyed.few e.few c.sum_costs.ensures (λ k. omega (arith, c.type_inv.costs k));
+      before_each = c.fewest_before.ensures;
+      from_each = c.fewest_after.ensures;
+    }
 
-pub returns : goal.returns
-returns c = rw (cost_best (graph_of c.args.costs.now c.args.from.now c.args.to.now c.args.width.now) c.requires.keyed.few c.requires.g_nonzero.1 c.sum_costs.ensures c.args.bound _ c.args.n) c.search.ensures
+pub invariant_of-limits-else-g-le64 : goal.invariant_of-limits-else-g-le64
+invariant_of-limits-else-g-le64 c =
+    let e = c.args.edges in
+    let G = graph_of c.args.costs.now e.starts.now e.ends.now e.widths.now in
+    record {
+      costs = cost_light G c.requires.keyed.few e.few c.sum_costs.ensures (λ k. omega (arith, c.type_inv.costs k));
+      before_each = c.fewest_before.ensures;
+      from_each = c.fewest_after.ensures;
+    }
+
+pub returns-then-g-le64 : goal.returns-then-g-le64
+returns-then-g-le64 c =
+    let e = c.args.edges in
+    let G = graph_of c.args.costs.now e.starts.now e.ends.now e.widths.now in
+    rw (cost_best G c.requires.keyed.few e.few c.sum_costs.ensures c.args.bound _ c.args.n) c.search.ensures
+
+pub returns-else-g-le64 : goal.returns-else-g-le64
+returns-else-g-le64 c =
+    let e = c.args.edges in
+    let G = graph_of c.args.costs.now e.starts.now e.ends.now e.widths.now in
+    rw (cost_best G c.requires.keyed.few e.few c.sum_costs.ensures c.args.bound _ c.args.n) c.search-else-g-le64.ensures
