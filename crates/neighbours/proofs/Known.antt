@@ -4,21 +4,20 @@ use mathlib.Core.Path.{◌≡◌, refl, sym, ap, ◌∙◌}
 use mathlib.Core.Bool.{false, ◌&&◌}
 use mathlib.Core.Logic.{inl, inr}
 use mathlib.Core.List.{List}
-use native.Mathlib.Numerals.{add-one}
 use native.Mathlib.Omega.{arith}
 use lib.Dec.{eqb, ltb, leb}
 use lib.ListN.{length, get_or, set, length-set, replicate, get_or-replicate}
 use lib.Seq.{get_or-set_same, get_or-set_other}
 use borrow.Author.Tests.{eqb-true, eq-eqb, ne_eqb, ltb-true, ltb-false, leb-false, le-leb}
-use Rattle.folds.specs.Fold.{pick, when, turns}
-use Rattle.folds.proofs.Cases.{no_bool, by, either, eq_or_ne, last_or, mark_no}
+use Rattle.folds.specs.Fold.{pick, turns}
+use Rattle.folds.proofs.Cases.{no_bool, by, either, eq_or_ne, mark_no}
 use Rattle.folds.proofs.Choose.{choose_start, choose_kept, min_one, max_one}
 use Rattle.folds.proofs.Loops.{turns_zero, turns_step}
 use Rattle.graph.specs.Graph.{via}
 use Rattle.graph.specs.Links.{Linked}
 use Rattle.graph.proofs.Links.{On}
-use Rattle.neighbours.specs.Visit.{lower_by, raise_by, low_next, high_before}
-use Rattle.neighbours.specs.Known.{open_to, Known, Swept, Opened, Fresh, among, Staled, Roused}
+use Rattle.neighbours.specs.Visit.{fold_by, lower_by, raise_by, low_next, high_before}
+use Rattle.neighbours.specs.Known.{Known, Swept, Opened, Fresh, among, Staled, Roused}
 
 -- a step at the edges whose near end is c
 abbrev at : List ℕ → (ℕ → ℕ → ℕ) → ℕ → ℕ → ℕ → ℕ
@@ -58,17 +57,6 @@ module _ (froms tos table : List ℕ) (k : ℕ) where
 module _ (table low high : List ℕ) (k : ℕ) where
   pub opened_none : Opened table low high k 0 (replicate 512 2)
   opened_none = record { long = refl; is = λ c l. absurd (omega arith); rest = λ c _ l. get_or-replicate {A = ℕ} 512 c 2 0 l }
-
-  pub opened_turn : {marks : List ℕ} {i x : ℕ} → i < 512 → x ≡ when (open_to (get_or table i 0) (get_or low i 0) (get_or high i 0) k) 1
-      → Opened table low high k i marks → Opened table low high k (i + 1) (set marks i x)
-  opened_turn {marks} {i} {x} l e O =
-      record {
-        long = length-set marks i x ∙ O.long;
-        is = λ c lc.
-            either (last_or (rw add-one at lc)) (λ q. rw (q, get_or-set_same marks i x 0 (omega (arith, O.long))) e)
-            (λ lt. rw (get_or-set_other marks i c x 0 (λ q. omega arith)) (O.is c lt));
-        rest = λ c g lc. rw (get_or-set_other marks i c x 0 (λ q. omega arith)) (O.rest c (omega arith) lc);
-      }
 
 module _ {froms tos table : List ℕ} {k : ℕ} where
   pub known_new : {low high marks : List ℕ} {g : ℕ} → Swept froms tos table k (length froms) low high → Opened table low high k g marks → Known froms tos table k low high marks
@@ -110,9 +98,6 @@ module _ {froms tos table : List ℕ} {k : ℕ} where
 
 -- marks of 2 along a walk
 module _ (near far : List ℕ) {m : ℕ} {head next : List ℕ} (L : Linked (λ i. get_or near i 0) m head next) (numbers : List ℕ) (first last : ℕ) (marks : List ℕ) where
-  pub staled_on : (h : ℕ) → h < 512 → length marks ≡ 512 → Staled near far numbers first last h (get_or head h 0) marks marks
-  staled_on h l e = record { long = e; far_ends = λ i li q. absurd ((L.heads h l).skips i (omega arith) li q); others = λ c _. refl }
-
   pub staled_turn : (h j : ℕ) {now : List ℕ} {c x : ℕ} → On (λ i. get_or near i 0) m h j → j < m → c ≡ get_or far j 0 → c < 512
       → x ≡ pick (leb first (get_or numbers c 0) && leb (get_or numbers c 0) last) 2 (get_or now c 0)
       → Staled near far numbers first last h j marks now → Staled near far numbers first last h (get_or next j 0) marks (set now c x)
@@ -214,3 +199,14 @@ known_moved {froms} {tos} {table} {low} {high} {marks} {marks'} {k} {h} {own} {t
   where
     before : (c : ℕ) → (get_or marks' c 0 ≡ 2 → ⊥) → get_or marks c 0 ≡ 2 → ⊥
     before c n e = n (R.others c n ∙ e)
+
+-- what the two walks from h gave, by the lists that they took
+pub low_walked : {near far froms tos : List ℕ} (table : List ℕ) (h k : ℕ) {x : ℕ} → near ≡ froms → far ≡ tos → x ≡ turns (length near) (fold_by min near far table h) k
+    → x ≡ low_next froms tos table h k
+unfolding fold_by lower_by low_next
+low_walked table h k n f e = rw (n, f) at e
+
+pub high_walked : {near far froms tos : List ℕ} (table : List ℕ) (h : ℕ) {x : ℕ} → near ≡ tos → far ≡ froms → length tos ≡ length froms
+    → x ≡ turns (length near) (fold_by (λ s p. max s (p + 1)) near far table h) 0 → x ≡ high_before froms tos table h
+unfolding fold_by raise_by high_before
+high_walked table h n f l e = rw (n, f, l) at e

@@ -16,50 +16,27 @@ use Rattle.folds.proofs.Sums.{sum_to_step, sum_to_less, sum_to_mono, sum_to_none
 use Rattle.graph.specs.Graph.{via}
 use Rattle.graph.specs.Links.{Linked, Ended}
 use Rattle.graph.proofs.Links.{Only, Acts, On, sum_on, sum_next, turns_on, turns_next}
-use Rattle.neighbours.specs.Visit.{Listed, lower_by, raise_by, low_next, high_before, width_to, pull_to, SumsRoom, Added, Pulled}
+use Rattle.neighbours.specs.Visit.{fold_by, lower_by, raise_by, low_next, high_before, width_to, pull_to, SumsRoom, Added, Pulled}
 
 -- the lists, the other way round
 pub ended_back : {froms tos : List ℕ} → Ended froms tos → Ended tos froms
 ended_back E = record { from = E.to; to = E.from; same = sym E.same }
 
-pub listed_back : {froms tos widths : List ℕ} → Listed froms tos widths → Listed tos froms widths
-listed_back L =
-    record {
-      ends = ended_back L.ends;
-      same_widths = L.same_widths ∙ sym L.ends.same;
-      narrow = rw L.ends.same L.narrow;
-      wide = rw L.ends.same L.wide;
-    }
-
-module _ (near far table : List ℕ) (h : ℕ) where
-  lower_acts : Acts (λ i. get_or near i 0) h (lower_by near far table h)
-  unfolding lower_by
-  lower_acts j n t = rw (ne_eqb (get_or near j 0) h n)
-
-  raise_acts : Acts (λ i. get_or near i 0) h (raise_by near far table h)
-  unfolding raise_by
-  raise_acts j n t = rw (ne_eqb (get_or near j 0) h n)
+module _ (op : ℕ → ℕ → ℕ) (near far table : List ℕ) (h : ℕ) where
+  fold_acts : Acts (λ i. get_or near i 0) h (fold_by op near far table h)
+  unfolding fold_by
+  fold_acts j n t = rw (ne_eqb (get_or near j 0) h n)
 
   module _ {m : ℕ} {head next : List ℕ} (L : Linked (λ i. get_or near i 0) m head next) where
     -- where the walk begins
-    pub lower_on : (k : ℕ) → h < 512 → k ≡ turns (get_or head h 0) (lower_by near far table h) k
-    lower_on k l = turns_on L h _ k lower_acts l
-
-    pub raise_on : h < 512 → 0 ≡ turns (get_or head h 0) (raise_by near far table h) 0
-    raise_on l = turns_on L h _ 0 raise_acts l
+    pub fold_on : (s : ℕ) → h < 512 → s ≡ turns (get_or head h 0) (fold_by op near far table h) s
+    fold_on s l = turns_on L h _ s fold_acts l
 
     -- a turn, at an edge of h
-    module _ (j : ℕ) (o : On (λ i. get_or near i 0) m h j) (l : j < m) {c : ℕ} (q : c ≡ get_or far j 0) where
-      here : eqb (get_or near j 0) h ≡ true
-      here = eq-eqb (get_or near j 0) h (o.at l)
-
-      pub lower_next : {s : ℕ} (k : ℕ) → s ≡ turns j (lower_by near far table h) k → min s (get_or table c 0) ≡ turns (get_or next j 0) (lower_by near far table h) k
-      unfolding lower_by
-      lower_next k e = turns_next L h j _ k _ _ lower_acts o l e (rw (here, q))
-
-      pub raise_next : {s : ℕ} → s ≡ turns j (raise_by near far table h) 0 → max s (get_or table c 0 + 1) ≡ turns (get_or next j 0) (raise_by near far table h) 0
-      unfolding raise_by
-      raise_next e = turns_next L h j _ 0 _ _ raise_acts o l e (rw (here, q))
+    pub fold_next : (j : ℕ) → On (λ i. get_or near i 0) m h j → j < m → {c s r : ℕ} (s₀ : ℕ) → c ≡ get_or far j 0 → s ≡ turns j (fold_by op near far table h) s₀
+        → r ≡ op s (get_or table c 0) → r ≡ turns (get_or next j 0) (fold_by op near far table h) s₀
+    unfolding fold_by
+    fold_next j o l s₀ q e g = turns_next L h j _ s₀ _ _ fold_acts o l e (rw (eq-eqb (get_or near j 0) h (o.at l), ← q) g)
 
 module _ (near far widths table : List ℕ) (h : ℕ) where
   width_only : (u : ℕ) → Only (λ i. get_or near i 0) h (width_to near far widths table h u)
@@ -105,9 +82,6 @@ module _ (near far widths table : List ℕ) (h : ℕ) where
         where
           at : (u : ℕ) → when (eqb p u) w ≡ width_to near far widths table h u j
           at u = rw (eq-eqb (get_or near j 0) h (o.at l), s, q, g)
-
-pub room_zeros : SumsRoom (replicate 16 0)
-room_zeros = record { long = refl; room = λ u l. omega (arith, get_or-replicate {A = ℕ} 16 u 0 0 l) }
 
 pub room_next : (near far widths table : List ℕ) {h m : ℕ} {now : List ℕ} → sum_to m (λ i. get_or widths i 0) ≤ most_width
     → Added near far widths table h m (replicate 16 0) now → SumsRoom now

@@ -21,7 +21,11 @@ pub record Indexed (froms tos head next head_in next_into : List ℕ) : Type 0 w
   pub out : Linked (λ i. get_or froms i 0) (length froms) head next
   pub into : Linked (λ i. get_or tos i 0) (length tos) head_in next_into
 
--- s, and the part at the far end of edge j where its near end is h
+-- s, and the part at the far end of edge j where its near end is h, by one step
+unfoldable pub fold_by : (ℕ → ℕ → ℕ) → List ℕ → List ℕ → List ℕ → ℕ → ℕ → ℕ → ℕ
+fold_by op near far table h j s = pick (eqb (get_or near j 0) h) (op s (via table far j)) s
+
+-- the lower of the two; the higher, with one more than the part
 unfoldable pub lower_by : List ℕ → List ℕ → List ℕ → ℕ → ℕ → ℕ → ℕ
 lower_by near far table h j s = pick (eqb (get_or near j 0) h) (min s (via table far j)) s
 

@@ -1,319 +1,270 @@
 // What a visit of a cluster needs, by its own edges in a rung's lists: the parts that they lead to, and their width to each. The parts are
-// kept from one visit to the next, with a mark for each cluster: 0 where no candidate is open to it, 2 where a neighbour's move may have changed what is
-// known of it.
+// kept from one visit to the next, with a mark for each cluster.
 #![tactic(auto)]
 
-ghost use Rattle.std.specs.Prelude.{◌≡◌, ◌&&◌, ◌<◌, ◌≤◌, min, max, length, get_or, leb};
+ghost use Rattle.std.specs.Prelude.{◌≡◌, ℕ, ◌+◌, ◌&&◌, ◌<◌, ◌≤◌, min, max, length, get_or, leb};
 ghost use Rattle.folds.specs.Fold.{pick, when, turns, Read};
 ghost use Rattle.graph.specs.Links.{Linked, Ended};
-ghost use Rattle.neighbours.specs.Visit.{Placed, Listed, Indexed, lower_by, raise_by, SumsRoom, Added, Pulled};
+ghost use Rattle.neighbours.specs.Visit.{Placed, Listed, Indexed, fold_by, low_next, high_before, SumsRoom, Added, Pulled};
 ghost use Rattle.neighbours.specs.Known.{open_to, Known, Swept, Opened, Fresh, Staled, Roused};
 
-fn least(a: u16, b: u16) -> u16
-    ensures { result ≡ min a b }
-{
-    if b < a { b } else { a }
+use graph::{EdgeLists, LinkTable};
+
+// The marks: no candidate is open to the cluster; what is known of it is right; a neighbour's move may have changed it.
+// stays: numbers with names, no enum: the definitions (`Known`, `Opened`, `Roused`) state marks as numbers, and a new mark is a test's 0 or 1.
+pub const CLOSED: u8 = 0;
+
+pub const RIGHT: u8 = 1;
+
+pub const STALE: u8 = 2;
+
+// The part of each cluster.
+#[derive(Drop)]
+pub struct PartTable {
+    pub parts: [u16; 512],
+    ghost placed: { Placed parts },
 }
 
-fn most(a: u16, b: u16) -> u16
-    ensures { result ≡ max a b }
-{
-    if a < b { b } else { a }
+// What is kept of each cluster: the lowest part of a successor, one more than the highest of a predecessor, and its mark.
+// stays: the count of parts and 0 say that there is none, so that a sweep and a walk take the lower and the higher with no branch.
+// stays: that they are right (`Known`) is a clause, since it speaks of the edges and of the table too, which a move writes between two writes of these.
+#[derive(Drop)]
+pub struct Numbers {
+    pub low: [u16; 512],
+    pub high: [u16; 512],
+    pub marks: [u8; 512],
 }
 
-// The part of cluster c.
-pub fn part_at(table: &[u16; 512], c: usize) -> usize
-    requires placed { Placed table.now }
-    requires c_bound { c < 512 }
-    ensures { Read table.now c 16 result }
-{
-    folds::wide(table[c])
+// A row's edges, and their lists by the cluster that they leave and by the one that they enter.
+#[derive(Clone, Copy)]
+pub struct RowEdges<'a> {
+    pub from: &'a [u16],
+    pub to: &'a [u16],
+    pub out: &'a LinkTable,
+    pub into: &'a LinkTable,
+    ghost ended: { Ended from.now to.now },
+    ghost indexed: { Indexed from.now to.now out.now.head out.now.next into.now.head into.now.next },
+}
+
+// The same edges seen one way: each from its near end to its far one, and their lists by the near end.
+#[derive(Clone, Copy)]
+struct Side<'a> {
+    near: &'a [u16],
+    far: &'a [u16],
+    links: &'a LinkTable,
+    ghost ended: { Ended near.now far.now },
+    ghost linked: { Linked (λ i. get_or near.now i 0) (length near.now) links.now.head links.now.next },
+}
+
+impl<'a> RowEdges<'a> {
+    // The edges as those out of their near ends.
+    fn leaving(&self) -> Side<'a>
+        ensures { (result.near.now ≡ self.now.from.now) × (result.far.now ≡ self.now.to.now) × (result.links.now ≡ self.now.out.now) }
+    {
+        Side {
+            near: self.from,
+            far: self.to,
+            links: self.out,
+        }
+    }
+
+    // The edges as those into their near ends.
+    fn entering(&self) -> Side<'a>
+        ensures { (result.near.now ≡ self.now.to.now) × (result.far.now ≡ self.now.from.now) × (result.links.now ≡ self.now.into.now) }
+    {
+        Side {
+            near: self.to,
+            far: self.from,
+            links: self.into,
+        }
+    }
+}
+
+impl PartTable {
+    // The part of cluster c.
+    pub fn part_at(&self, c: usize) -> usize
+        requires { c < 512 }
+        ensures { Read self.now.parts c 16 result }
+    {
+        usize::from(self.parts[c])
+    }
 }
 
 // For every cluster the lowest part of a successor, or k, and one more than the highest of a predecessor, or 0.
-fn sweep(
-    from: &[u16],
-    to: &[u16],
-    table: &[u16; 512],
-    k: usize,
-    low: &mut [u16; 512],
-    high: &mut [u16; 512],
-)
-    requires ended { Ended from.now to.now }
-    requires placed { Placed table.now }
-    requires k_bound { k ≤ 16 }
-    ensures { Swept from.now to.now table.now k (length from.now) low.new high.new }
+fn sweep(edges: EdgeLists<'_>, table: &PartTable, k: usize, numbers: &mut Numbers)
+    requires { k ≤ 16 }
+    ensures { Swept edges.entry.starts.now edges.entry.ends.now table.now.parts k (length edges.entry.starts.now) numbers.new.low numbers.new.high }
 {
-    *low = [k as u16; 512];
-    *high = [0u16; 512];
-    let m = from.len();
-    let mut j: usize = 0;
-    while j < m {
-        let a = graph::end_at(from, j);
-        let b = graph::end_at(to, j);
-        low[a] = least(low[a], table[b]);
-        high[b] = most(high[b], table[a] + 1);
-        j += 1;
+    numbers.low = [k as u16; 512];
+    numbers.high = [0u16; 512];
+    for j in 0..edges.starts.len() {
+        let a = graph::end_at(edges.starts, j);
+        let b = graph::end_at(edges.ends, j);
+        numbers.low[a] = numbers.low[a].min(table.parts[b]);
+        numbers.high[b] = numbers.high[b].max(table.parts[a] + 1);
     }
 }
 
-// The mark of a cluster by its two numbers.
+// Whether a candidate is open to a cluster of part own, by its two numbers.
+#[tactic(auto, unfolding(crate::specs::Known::open_to))]
+fn is_open(own: u16, low: u16, high: u16, k: u16) -> bool
+    ensures { result ≡ open_to own low high k }
+{
+    (own < low && own + 1 < k) || (0 < own && high <= own)
+}
+
+// The mark of a cluster by its two numbers: `RIGHT` where a candidate is open, else `CLOSED`.
+#[tactic(auto, using(folds::proofs::Cases::bit_when))]
 fn mark_of(own: u16, low: u16, high: u16, k: u16) -> u8
     ensures { result ≡ when (open_to own low high k) 1 }
 {
-    if own < low && own as u32 + 1 < k as u32 {
-        return 1;
-    }
-    if 0 < own && high <= own {
-        return 1;
-    }
-    0
+    u8::from(is_open(own, low, high, k))
 }
 
 // Marks the clusters below g, and the rest as if an end of their edges had moved.
-fn mark_open(
-    table: &[u16; 512],
-    low: &[u16; 512],
-    high: &[u16; 512],
-    k: usize,
-    g: usize,
-    marks: &mut [u8; 512],
-)
-    requires table_len { (length table.now ≡ 512) × (length low.now ≡ 512) × (length high.now ≡ 512) }
-    requires k_bound { (k ≤ 16) × (g ≤ 512) }
-    ensures { Opened table.now low.now high.now k g marks.new }
+fn mark_open(table: &PartTable, k: usize, g: usize, numbers: &mut Numbers)
+    requires { (k ≤ 16) × (g ≤ 512) }
+    ensures opened { Opened table.now.parts numbers.old.low numbers.old.high k g numbers.new.marks }
+    ensures same { (numbers.new.low ≡ numbers.old.low) × (numbers.new.high ≡ numbers.old.high) }
 {
-    *marks = [2u8; 512];
-    let mut c: usize = 0;
-    while c < g {
-        marks[c] = mark_of(table[c], low[c], high[c], k as u16);
-        c += 1;
+    numbers.marks = [STALE; 512];
+    for c in 0..g {
+        numbers.marks[c] = mark_of(table.parts[c], numbers.low[c], numbers.high[c], k as u16);
     }
 }
 
 // What is known before the first visit, by one sweep over the edges.
-pub fn survey(
-    from: &[u16],
-    to: &[u16],
-    table: &[u16; 512],
-    k: usize,
-    g: usize,
-    low: &mut [u16; 512],
-    high: &mut [u16; 512],
-    marks: &mut [u8; 512],
-)
-    requires ended { Ended from.now to.now }
-    requires placed { Placed table.now }
-    requires k_bound { (k ≤ 16) × (g ≤ 512) }
-    ensures { Known from.now to.now table.now k low.new high.new marks.new }
+pub fn survey(edges: EdgeLists<'_>, table: &PartTable, k: usize, g: usize, numbers: &mut Numbers)
+    requires { (k ≤ 16) × (g ≤ 512) }
+    ensures { Known edges.entry.starts.now edges.entry.ends.now table.now.parts k numbers.new.low numbers.new.high numbers.new.marks }
 {
-    sweep(from, to, table, k, low, high);
-    mark_open(table, low, high, k, g, marks);
+    sweep(edges, table, k, numbers);
+    mark_open(table, k, g, numbers);
 }
 
-// The lowest part at the far ends of the edges whose near end is h, or k.
-fn lowest(
-    near: &[u16],
-    far: &[u16],
-    table: &[u16; 512],
-    head: &[u16; 513],
-    next: &[u16; 1024],
+// Folds the parts at the far ends of the edges whose near end is h.
+fn fold_far<F: Fn(u16, u16) -> u16>(
+    side: Side<'_>,
+    table: &PartTable,
     h: usize,
-    k: usize,
+    start: u16,
+    step: F,
 ) -> u16
-    requires ended { Ended near.now far.now }
-    requires placed { Placed table.now }
-    requires linked { Linked (λ i. get_or near.now i 0) (length near.now) head.now next.now }
-    requires h_bound { (h < 512) × (k ≤ 16) }
-    ensures { result ≡ turns (length near.now) (lower_by near.now far.now table.now h) k }
-{
-    let m = near.len();
-    let mut low = k as u16;
-    let mut j = folds::wide(head[h]);
-    while j < m {
-        let i = j;
-        j = folds::wide(next[i]);
-        let c = graph::end_at(far, i);
-        low = least(low, table[c]);
-    }
-    low
-}
-
-// One more than the highest part there, or 0.
-fn highest(
-    near: &[u16],
-    far: &[u16],
-    table: &[u16; 512],
-    head: &[u16; 513],
-    next: &[u16; 1024],
-    h: usize,
-) -> u16
-    requires ended { Ended near.now far.now }
-    requires placed { Placed table.now }
-    requires linked { Linked (λ i. get_or near.now i 0) (length near.now) head.now next.now }
+    ghost op: { ℕ → ℕ → ℕ }
     requires h_bound { h < 512 }
-    ensures { result ≡ turns (length near.now) (raise_by near.now far.now table.now h) 0 }
+    requires callable { (s p : ℕ) → s < 65536 → p < 16 → F.pre step s p }
+    requires gives { (s p r : ℕ) → s < 65536 → p < 16 → F.post step s p r → r ≡ op s p }
+    ensures { result ≡ turns (length side.entry.near.now) (fold_by op side.entry.near.now side.entry.far.now table.now.parts h) start }
 {
-    let m = near.len();
-    let mut high: u16 = 0;
-    let mut j = folds::wide(head[h]);
+    let m = side.near.len();
+    let mut value = start;
+    let mut j = usize::from(side.links.head[h]);
     while j < m {
         let i = j;
-        j = folds::wide(next[i]);
-        let c = graph::end_at(far, i);
-        high = most(high, table[c] + 1);
+        j = usize::from(side.links.next[i]);
+        let c = graph::end_at(side.far, i);
+        value = step(value, table.parts[c]);
     }
-    high
+    value
 }
 
-// Makes the two numbers of h right again, where a neighbour's move may have changed them. The first pair of links is by the edges' starts, the second
-// by their ends; here and below.
-pub fn refresh(
-    from: &[u16],
-    to: &[u16],
-    table: &[u16; 512],
-    head: &[u16; 513],
-    next: &[u16; 1024],
-    head_in: &[u16; 513],
-    next_in: &[u16; 1024],
-    h: usize,
-    k: usize,
-    low: &mut [u16; 512],
-    high: &mut [u16; 512],
-    marks: &mut [u8; 512],
-)
-    requires ended { Ended from.now to.now }
-    requires placed { Placed table.now }
-    requires indexed { Indexed from.now to.now head.now next.now head_in.now next_in.now }
+// Makes the two numbers of h right again, where a neighbour's move may have changed them.
+pub fn refresh(edges: &RowEdges<'_>, table: &PartTable, h: usize, k: usize, numbers: &mut Numbers)
     requires h_bound { (h < 512) × (k ≤ 16) }
-    requires known { Known from.now to.now table.now k low.old high.old marks.old }
-    ensures { Fresh from.now to.now table.now k h low.new high.new marks.new }
+    requires known { Known edges.now.from.now edges.now.to.now table.now.parts k numbers.old.low numbers.old.high numbers.old.marks }
+    ensures { Fresh edges.now.from.now edges.now.to.now table.now.parts k h numbers.new.low numbers.new.high numbers.new.marks }
 {
-    if marks[h] != 2 {
+    if numbers.marks[h] != STALE {
         return;
     }
-    low[h] = lowest(from, to, table, head, next, h, k);
-    high[h] = highest(to, from, table, head_in, next_in, h);
-    marks[h] = 1;
+    let out = edges.leaving();
+    let back = edges.entering();
+    numbers.low[h] = fold_far(out, table, h, k as u16, |low: u16, part: u16| low.min(part));
+    numbers.high[h] = fold_far(back, table, h, 0, |high: u16, part: u16| high.max(part + 1));
+    numbers.marks[h] = RIGHT;
 }
 
 // Adds the width to each part at the far ends of the edges whose near end is h.
-fn add_widths(
-    near: &[u16],
-    far: &[u16],
-    widths: &[u32],
-    table: &[u16; 512],
-    head: &[u16; 513],
-    next: &[u16; 1024],
-    h: usize,
-    toward: &mut [u32; 16],
-)
-    requires listed { Listed near.now far.now widths.now }
-    requires placed { Placed table.now }
-    requires linked { Linked (λ i. get_or near.now i 0) (length near.now) head.now next.now }
+fn add_widths(side: Side<'_>, widths: &[u32], table: &PartTable, h: usize, toward: &mut [u32; 16])
+    requires listed { Listed side.near.now side.far.now widths.now }
     requires h_bound { h < 512 }
     requires sums_room { SumsRoom toward.old }
-    ensures { Added near.now far.now widths.now table.now h (length near.now) toward.old toward.new }
+    ensures { Added side.entry.near.now side.entry.far.now widths.now table.now.parts h (length side.entry.near.now) toward.old toward.new }
 {
-    let m = near.len();
-    let mut j = folds::wide(head[h]);
+    let m = side.near.len();
+    let mut j = usize::from(side.links.head[h]);
     while j < m {
         let i = j;
-        j = folds::wide(next[i]);
-        let c = graph::end_at(far, i);
-        let p = part_at(table, c);
-        toward[p] = toward[p] + widths[i];
+        j = usize::from(side.links.next[i]);
+        let p = table.part_at(graph::end_at(side.far, i));
+        toward[p] += widths[i];
     }
 }
 
 // The width between h and each part.
 pub fn pulls(
-    from: &[u16],
-    to: &[u16],
+    edges: &RowEdges<'_>,
     widths: &[u32],
-    table: &[u16; 512],
-    head: &[u16; 513],
-    next: &[u16; 1024],
-    head_in: &[u16; 513],
-    next_in: &[u16; 1024],
+    table: &PartTable,
     h: usize,
     toward: &mut [u32; 16],
 )
-    requires listed { Listed from.now to.now widths.now }
-    requires placed { Placed table.now }
-    requires indexed { Indexed from.now to.now head.now next.now head_in.now next_in.now }
+    requires listed { Listed edges.now.from.now edges.now.to.now widths.now }
     requires h_bound { h < 512 }
-    ensures { Pulled from.now to.now widths.now table.now h toward.new }
+    ensures { Pulled edges.now.from.now edges.now.to.now widths.now table.now.parts h toward.new }
 {
     *toward = [0u32; 16];
-    add_widths(from, to, widths, table, head, next, h, toward);
-    add_widths(to, from, widths, table, head_in, next_in, h, toward);
+    let out = edges.leaving();
+    add_widths(out, widths, table, h, toward);
+    let back = edges.entering();
+    add_widths(back, widths, table, h, toward);
 }
 
-// The mark of a cluster after a neighbour has moved: 2 where its number is one from first to last.
+// The mark of a cluster after a neighbour has moved: stale where its number is one from first to last.
 fn restaled(mark: u8, number: u16, first: u16, last: u16) -> u8
     ensures { result ≡ pick (leb first number && leb number last) 2 mark }
 {
-    if number < first {
-        return mark;
+    if first <= number && number <= last {
+        STALE
+    } else {
+        mark
     }
-    if last < number {
-        return mark;
-    }
-    2
 }
 
 // Marks the clusters at the far ends of the edges whose near end is h, where their number is one from first to last.
 fn mark_far(
-    near: &[u16],
-    far: &[u16],
-    head: &[u16; 513],
-    next: &[u16; 1024],
+    side: Side<'_>,
     h: usize,
     numbers: &[u16; 512],
     first: u16,
     last: u16,
     marks: &mut [u8; 512],
 )
-    requires ended { Ended near.now far.now }
-    requires linked { Linked (λ i. get_or near.now i 0) (length near.now) head.now next.now }
-    requires h_bound { (h < 512) × (length numbers.now ≡ 512) × (length marks.old ≡ 512) }
-    ensures { Staled near.now far.now numbers.now first last h (length near.now) marks.old marks.new }
+    requires { h < 512 }
+    ensures { Staled side.entry.near.now side.entry.far.now numbers.now first last h (length side.entry.near.now) marks.old marks.new }
 {
-    let m = near.len();
-    let mut j = folds::wide(head[h]);
+    let m = side.near.len();
+    let mut j = usize::from(side.links.head[h]);
     while j < m {
         let i = j;
-        j = folds::wide(next[i]);
-        let c = graph::end_at(far, i);
+        j = usize::from(side.links.next[i]);
+        let c = graph::end_at(side.far, i);
         marks[c] = restaled(marks[c], numbers[c], first, last);
     }
 }
 
 // Marks the clusters whose numbers a move of h from part own to part t can change: those at the far ends of its edges, but where the number is beyond
 // both parts, so that another neighbour gives it.
-pub fn rouse(
-    from: &[u16],
-    to: &[u16],
-    head: &[u16; 513],
-    next: &[u16; 1024],
-    head_in: &[u16; 513],
-    next_in: &[u16; 1024],
-    h: usize,
-    own: u16,
-    t: u16,
-    low: &[u16; 512],
-    high: &[u16; 512],
-    marks: &mut [u8; 512],
-)
-    requires ended { Ended from.now to.now }
-    requires indexed { Indexed from.now to.now head.now next.now head_in.now next_in.now }
-    requires h_bound { (h < 512) × (length low.now ≡ 512) × (length high.now ≡ 512) × (length marks.old ≡ 512) }
+pub fn rouse(edges: &RowEdges<'_>, h: usize, own: u16, t: u16, numbers: &mut Numbers)
+    requires h_bound { h < 512 }
     requires own_bound { (own < 16) × (t < 16) }
-    ensures { Roused from.now to.now h own t low.now high.now marks.old marks.new }
+    ensures roused { Roused edges.now.from.now edges.now.to.now h own t numbers.old.low numbers.old.high numbers.old.marks numbers.new.marks }
+    ensures same { (numbers.new.low ≡ numbers.old.low) × (numbers.new.high ≡ numbers.old.high) }
 {
-    let last = most(own + 1, t);
-    mark_far(from, to, head, next, h, high, 0, last, marks);
-    let first = least(own, t + 1);
-    mark_far(to, from, head_in, next_in, h, low, first, 16, marks);
+    let out = edges.leaving();
+    let last = (own + 1).max(t);
+    mark_far(out, h, &numbers.high, 0, last, &mut numbers.marks);
+    let back = edges.entering();
+    let first = own.min(t + 1);
+    mark_far(back, h, &numbers.low, first, 16, &mut numbers.marks);
 }

@@ -1,30 +1,20 @@
 -- Laws of the record of part sums.
 use Prim.Native.Nat.{ℕ, ◌+◌, ◌-◌, ◌≤◌, ◌<◌, ◌^◌}
 use mathlib.Core.Path.{◌≡◌, refl, sym, ◌∙◌}
-use mathlib.Core.Bool.{true, false}
+use mathlib.Core.Bool.{true}
 use mathlib.Core.List.{List}
 use native.Mathlib.Omega.{arith}
-use lib.Dec.{ltb, leb}
+use lib.Dec.{ltb}
 use lib.ListN.{get_or, set, length-set}
 use lib.Seq.{get_or-set_same, get_or-set_other}
 use borrow.Author.Tests.{ltb-true, lt-ltb, le-ltb, leb-true}
 use Rattle.folds.proofs.Cases.{both, either, eq_or_ne}
 use Rattle.graph.specs.Graph.{part_cost}
 use Rattle.part_sums.specs.declared.PartSums.{PartSums}
-use Rattle.part_sums.specs.Sums.{SumsOf, size_allowed, sums_allow, sums_even, FirstEven, NoneBelow, FirstBelow, Shifts, shifted, Shifted}
+use Rattle.part_sums.specs.Sums.{SumsOf, size_allowed, sums_allow, sums_even, FirstEven, Shifts, shifted, Shifted}
 
 set_others : (l : List ℕ) (a b x y u : ℕ) → (u ≡ a → ⊥) → (u ≡ b → ⊥) → get_or (set (set l a x) b y) u 0 ≡ get_or l u 0
 set_others l a b x y u n m = get_or-set_other (set l a x) b u y 0 m ∙ get_or-set_other l a u x 0 n
-
--- the test, from what its branches say
-module _ (S : PartSums) (from cost size bound : ℕ) where
-  pub allow_empties : get_or S.sums from 0 ≤ cost → false ≡ size_allowed S from cost size bound
-  unfolding size_allowed
-  allow_empties l = rw (le-ltb cost (get_or S.sums from 0) l)
-
-  pub allow_last : cost < get_or S.sums from 0 → leb size bound ≡ size_allowed S from cost size bound
-  unfolding size_allowed
-  allow_last l = rw (lt-ltb cost (get_or S.sums from 0) l)
 
 module _ (S : PartSums) (from to cost bound : ℕ) where
   pub allowed_shifts : sums_allow S from to cost bound ≡ true → from < 16 → to < 16 → bound < 2 ^ 32 → Shifts S from to cost
@@ -73,22 +63,16 @@ pub shifted_two : (S : PartSums) (from to cost : ℕ) (r : PartSums) → r ≡ s
 shifted_two S from to cost r e = record { is = e; counts = rw e (shifted_count S from to cost); others = λ u n m. rw e (shifted_others S from to cost 0 u n m) }
 
 -- the first part that evens, from what the branches say
-pub below_none : (sums : List ℕ) (first rest : ℕ) → NoneBelow sums first rest first
-below_none sums first rest = record { at = λ u g l. absurd (omega arith) }
-
-pub below_turn : {sums : List ℕ} {first rest t : ℕ} → NoneBelow sums first rest t → rest ≤ get_or sums t 0 → NoneBelow sums first rest (t + 1)
-below_turn {t = t} N l = record { at = λ u g h. either (eq_or_ne u t) (λ q. rw q l) (λ n. N.at u g (omega arith)) }
-
 pub even_poor : (S : PartSums) (own cost first end : ℕ) → get_or S.sums own 0 ≤ cost → FirstEven S own cost first end end
 unfolding sums_even
 even_poor S own cost first end l =
     record { none = λ u g h e. le-ltb (get_or S.sums u 0 + cost) (get_or S.sums own 0) (omega arith); some = λ h. absurd (omega arith) }
 
-pub even_below : (S : PartSums) (own cost first end : ℕ) {rest r : ℕ} → cost < get_or S.sums own 0 → rest ≡ get_or S.sums own 0 - cost
-    → FirstBelow S.sums first end rest r → FirstEven S own cost first end r
+pub even_below : (S : PartSums) (own cost first end r : ℕ) {rest : ℕ} → cost < get_or S.sums own 0 → rest ≡ get_or S.sums own 0 - cost
+    → ((u : ℕ) → first ≤ u → u < r → u < end → rest ≤ get_or S.sums u 0) → (r < end → (first ≤ r) × (get_or S.sums r 0 < rest)) → FirstEven S own cost first end r
 unfolding sums_even
-even_below S own cost first end {rest} {r} l q F =
+even_below S own cost first end r {rest} l q none some =
     record {
-      none = λ u g h e. le-ltb (get_or S.sums u 0 + cost) (get_or S.sums own 0) (omega (arith, F.none.at u g h));
-      some = λ h. let (g, b) = F.some h in (g, lt-ltb (get_or S.sums r 0 + cost) (get_or S.sums own 0) (omega arith));
+      none = λ u g h e. le-ltb (get_or S.sums u 0 + cost) (get_or S.sums own 0) (omega (arith, none u g h e));
+      some = λ h. let (g, b) = some h in (g, lt-ltb (get_or S.sums r 0 + cost) (get_or S.sums own 0) (omega arith));
     }

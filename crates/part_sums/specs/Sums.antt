@@ -1,5 +1,5 @@
 -- The record of part sums: what it holds, and what its methods answer.
-use Rattle.std.specs.Prelude.{ℕ, ◌+◌, ◌-◌, ◌≤◌, ◌<◌, ◌^◌, ◌≡◌, Bool, true, false, ◌&&◌, List, ltb, leb, length, get_or, set}
+use Rattle.std.specs.Prelude.{Option, Some, None, ℕ, ◌+◌, ◌-◌, ◌≤◌, ◌<◌, ◌^◌, ◌≡◌, Bool, true, false, ◌&&◌, List, ltb, leb, length, get_or, set}
 use Rattle.graph.specs.Graph.{part_cost}
 use Rattle.part_sums.specs.declared.PartSums.{PartSums}
 
@@ -20,17 +20,15 @@ sums_allow S from to cost bound = size_allowed S from cost (get_or S.sums to 0 +
 unfoldable pub sums_even : PartSums → ℕ → ℕ → ℕ → Bool
 sums_even S from to cost = ltb (get_or S.sums to 0 + cost) (get_or S.sums from 0)
 
--- r is the first part from `first` on and before `end` that evens the cost's own out, or one past them; the same of sums below `rest`
+-- r is the first part from `first` on and before `end` that evens the cost's own out, or one past them
 pub record FirstEven (S : PartSums) (own cost first end r : ℕ) : Type 0 where
   pub none : (u : ℕ) → first ≤ u → u < r → u < end → sums_even S own u cost ≡ false
   pub some : r < end → (first ≤ r) × (sums_even S own r cost ≡ true)
 
-pub record NoneBelow (sums : List ℕ) (first rest end : ℕ) : Type 0 where
-  pub at : (u : ℕ) → first ≤ u → u < end → rest ≤ get_or sums u 0
-
-pub record FirstBelow (sums : List ℕ) (first end rest r : ℕ) : Type 0 where
-  pub none : NoneBelow sums first rest r
-  pub some : r < end → (first ≤ r) × (get_or sums r 0 < rest)
+-- the same of a search that finds none or one
+abbrev pub EvenFound : PartSums → ℕ → ℕ → ℕ → ℕ → Option ℕ → Type 0
+EvenFound S own cost first end None = FirstEven S own cost first end end
+EvenFound S own cost first end (Some r) = (r < end) × FirstEven S own cost first end r
 
 -- a cost that can go from one part to another
 pub record Shifts (S : PartSums) (from to cost : ℕ) : Type 0 where

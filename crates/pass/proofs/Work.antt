@@ -3,12 +3,13 @@ use Prim.Native.Nat.{ℕ, ◌+◌, ◌-◌, ◌≤◌, ◌<◌, ◌^◌, min}
 use mathlib.Core.Path.{◌≡◌, refl, sym, ap, subst, ◌∙◌}
 use mathlib.Core.Bool.{Bool, true, false, not, ◌&&◌, ◌||◌}
 use mathlib.Core.List.{List}
+use Rattle.std.specs.Prelude.{Some, None}
 use mathlib.Core.Logic.{◌⊎◌, inl, inr}
 use native.Mathlib.Omega.{arith}
 use lib.Dec.{eqb, ltb, leb}
 use lib.ListN.{get_or, set, length-set}
 use lib.Seq.{get_or-set_same, get_or-set_other}
-use borrow.Author.Tests.{lt-ltb, le-ltb, le-leb, lt-leb, ltb-true, ltb-false, leb-true, eqb-true, eqb-false, eq-eqb, ne_eqb}
+use borrow.Author.Tests.{lt-ltb, le-ltb, le-leb, ltb-true, ltb-false, leb-true, eqb-true, eqb-false, eq-eqb, ne_eqb}
 use Rattle.folds.specs.Fold.{pick, when, turns, Read}
 use Rattle.folds.proofs.Cases.{by, both, both_i, one_of, or_l, or_r, either, eq_or_ne, and_false, and_true, not_yes, no_bool}
 use Rattle.folds.proofs.Best.{Best, best_none, best_one, best_to_lem, best_below_lem, best_alike}
@@ -18,9 +19,9 @@ use Rattle.neighbours.specs.Known.{open_to, Known, Fresh}
 use Rattle.neighbours.proofs.Laws.{pull_between, pull_high, pull_low}
 use Rattle.part_sums.specs.declared.PartSums.{PartSums}
 use Rattle.pass.specs.declared.Target.{Target}
-use Rattle.part_sums.specs.Sums.{sums_allow, sums_even, FirstEven, Shifts, shifted}
+use Rattle.part_sums.specs.Sums.{sums_allow, sums_even, FirstEven, EvenFound, Shifts, shifted}
 use Rattle.part_sums.proofs.Sums.{allowed_shifts}
-use Rattle.pass.specs.Work.{gains_by, open_of, choice_of, beats_of, better_of, Around, back_allowed, ahead_allowed, back_of, ends_of, evenly, NoneEvens, FirstEvens, EvenPart, PickedPart, Aims, Work, begun, choice_at, gain_at, moved_by, worked, Paid, Visitable, Goal, WorkDone}
+use Rattle.pass.specs.Work.{gains_by, open_of, choice_of, beats_of, better_of, Around, back_allowed, ahead_allowed, back_of, ends_of, evenly, NoneEvens, FirstEvens, EvenPart, PickedPart, Aims, Work, choice_at, gain_at, moved_by, worked, Paid, Visitable, Goal, WorkDone}
 
 -- a chain of tests in the code's order
 reorder : (a b g l : Bool) → (a && (b && (g && l))) ≡ (((a && true) && (l && g)) && b)
@@ -338,20 +339,8 @@ module _ (f : ℕ → ℕ) (S : PartSums) (own cost bound low high : ℕ) (lo : 
       let b : own < low = omega (arith, A.before) in
       record { chosen = record { is = even_choice f S own cost bound low high A a b none E; within = lt }; gain_is = even_gain f S own cost bound low high A a b none E }
 
--- the two ends, from what the branches say
+-- the choice among the two ends, from what the branches say
 module _ (S : PartSums) (own cost bound high : ℕ) where
-  pub back_never : high ≡ 0 → false ≡ back_allowed S own cost bound high
-  unfolding back_allowed
-  back_never e = rw e
-
-  pub back_own : own < high → false ≡ back_allowed S own cost bound high
-  unfolding back_allowed
-  back_own l = rw (lt-leb high own l, and_false (ltb 0 high))
-
-  pub back_lets : {r : Bool} → (high ≡ 0 → ⊥) → high ≤ own → r ≡ sums_allow S own (high - 1) cost bound → r ≡ back_allowed S own cost bound high
-  unfolding back_allowed
-  back_lets n l e = rw (lt-ltb 0 high (omega arith), le-leb high own l) e
-
   pub back_none : (f : ℕ → ℕ) → high ≡ 0 → own ≡ back_of f S own cost bound high
   unfolding back_of
   back_none f e = rw e
@@ -360,63 +349,45 @@ module _ (S : PartSums) (own cost bound high : ℕ) where
   unfolding back_of
   back_tried f n e = rw (lt-ltb 0 high (omega arith)) e
 
-module _ (S : PartSums) (own cost bound low : ℕ) where
-  pub ahead_own : low ≤ own → false ≡ ahead_allowed S own cost bound low
-  unfolding ahead_allowed
-  ahead_own l = rw (le-ltb own low l)
+module _ (S : PartSums) (own cost bound low : ℕ) (f : ℕ → ℕ) (high : ℕ) {b : ℕ} (e : b ≡ back_of f S own cost bound high) where
+  pub ends_none : S.count ≤ low → b ≡ ends_of f S own cost bound low high
+  unfolding ends_of
+  ends_none l = rw (le-ltb low S.count l) e
 
-  pub ahead_none : S.count ≤ low → false ≡ ahead_allowed S own cost bound low
-  unfolding ahead_allowed
-  ahead_none l = rw (le-ltb low S.count l, and_false (ltb own low))
+  pub ends_tried : {r : ℕ} → low < S.count → r ≡ better_of f S own cost bound low b → r ≡ ends_of f S own cost bound low high
+  unfolding ends_of
+  ends_tried l q = rw (lt-ltb low S.count l, ← e) q
 
-  pub ahead_lets : {r : Bool} → own < low → low < S.count → r ≡ sums_allow S own low cost bound → r ≡ ahead_allowed S own cost bound low
-  unfolding ahead_allowed
-  ahead_lets l g e = rw (lt-ltb own low l, lt-ltb low S.count g) e
+-- no part from high on evens and is allowed, up to where the search goes on
+pub none_first : (S : PartSums) (own cost bound high end : ℕ) → NoneEvens S own cost bound high (min high end)
+none_first S own cost bound high end = record { at = λ u g l. absurd (omega arith) }
 
-  module _ (f : ℕ → ℕ) (high : ℕ) {b : ℕ} (e : b ≡ back_of f S own cost bound high) where
-    pub ends_none : S.count ≤ low → b ≡ ends_of f S own cost bound low high
-    unfolding ends_of
-    ends_none l = rw (le-ltb low S.count l) e
-
-    pub ends_tried : {r : ℕ} → low < S.count → r ≡ better_of f S own cost bound low b → r ≡ ends_of f S own cost bound low high
-    unfolding ends_of
-    ends_tried l q = rw (lt-ltb low S.count l, ← e) q
-
--- one of two tests
-pub either_first : {a r : Bool} (b : Bool) → r ≡ a → r ≡ true → true ≡ (a || b)
-either_first {a} b p q = sym (or_l a b (sym p ∙ q))
-
-pub either_second : {a b r x : Bool} → r ≡ a → r ≡ false → x ≡ b → x ≡ (a || b)
-either_second p q e = rw (sym p ∙ q) e
-
-pub even_less : {S : PartSums} {own cost end t r : ℕ} → FirstEven S own cost (t + 1) end r → t < end → end - r < end - t
-even_less {end = end} {r = r} F l = by (ltb r end) (λ x. omega (arith, (F.some (ltb-true r end x)).0)) (λ x. let y = ltb-false r end x in omega arith)
-
--- no part from high on evens and is allowed, up to where the sums say so
 module _ {S : PartSums} {own cost bound high end : ℕ} where
-  pub none_first : {t : ℕ} → FirstEven S own cost high end t → NoneEvens S own cost bound high (min t end)
+  none_below : {first t : ℕ} → NoneEvens S own cost bound high (min first end) → t ≤ end → FirstEven S own cost first end t → NoneEvens S own cost bound high t
   unfolding evenly
-  none_first F = record { at = λ u g l. rw (F.none u g (omega arith) (omega arith)) }
-
-  pub none_next : {t r : ℕ} → NoneEvens S own cost bound high (min t end) → t < end → sums_allow S own t cost bound ≡ false → FirstEven S own cost (t + 1) end r
-      → NoneEvens S own cost bound high (min r end)
-  unfolding evenly
-  none_next {t} N l e F =
+  none_below {first} N lt F =
       record {
         at = λ u g h.
-            by (ltb u t) (λ x. let y = ltb-true u t x in N.at u g (omega arith))
-            (λ x. let y = ltb-false u t x in
-            either (eq_or_ne u t) (λ q. rw (q, e) (and_false (sums_even S own t cost))) (λ n. rw (F.none u (omega arith) (omega arith) (omega arith))));
+            by (ltb u first) (λ x. let y = ltb-true u first x in N.at u g (omega arith))
+            (λ x. rw (F.none u (ltb-false u first x) h (omega arith)));
       }
 
-  pub none_end : (low : ℕ) {t : ℕ} → end ≡ min low S.count → end ≤ t → NoneEvens S own cost bound high (min t end) → NoneEvens S own cost bound high (min low S.count)
-  none_end low q l N = record { at = λ u g h. N.at u g (omega arith) }
-
-  pub found_first : {low t : ℕ} → end ≡ min low S.count → t < end → high ≤ t → NoneEvens S own cost bound high (min t end) → sums_even S own t cost ≡ true → sums_allow S own t cost bound ≡ true
-      → FirstEvens S own cost bound low high t
+  pub none_next : {first t : ℕ} → NoneEvens S own cost bound high (min first end) → EvenFound S own cost first end (Some t) → sums_allow S own t cost bound ≡ false
+      → NoneEvens S own cost bound high (min (t + 1) end)
   unfolding evenly
-  found_first {low} {t} q l g N y a =
-      record { from = g; below = omega arith; inside = omega arith; evens = rw (y, a); first = record { at = λ u h m. N.at u h (omega arith) } }
+  none_next {first} {t} N (l, F) e =
+      record { at = λ u g h. either (eq_or_ne u t) (λ q. rw (q, e) (and_false (sums_even S own t cost))) (λ n. (none_below N (omega arith) F).at u g (omega arith)) }
+
+  pub none_end : (low : ℕ) {first : ℕ} → end ≡ min low S.count → NoneEvens S own cost bound high (min first end) → EvenFound S own cost first end None
+      → NoneEvens S own cost bound high (min low S.count)
+  none_end low q N F = rw (← q) (none_below N (omega arith) F)
+
+  pub found_first : {low first t : ℕ} → end ≡ min low S.count → high ≤ first → NoneEvens S own cost bound high (min first end) → EvenFound S own cost first end (Some t)
+      → sums_allow S own t cost bound ≡ true → FirstEvens S own cost bound low high t
+  unfolding evenly
+  found_first {low} {first} {t} q g N (l, F) a =
+      let (f, y) = F.some l in
+      record { from = omega arith; below = omega arith; inside = omega arith; evens = rw (y, a); first = none_below N (omega arith) F }
 
 pub placed_set : {table : List ℕ} (h t : ℕ) → Placed table → t < 16 → Placed (set table h t)
 placed_set {table} h t p l =
@@ -502,7 +473,3 @@ done_none f w p = record { is_so = turns_zero f w; placed = p; counts = refl; fe
 pub done_turn : (f : ℕ → Work → Work) {w u v : Work} {i : ℕ} → WorkDone w u i (turns i f w) → WorkDone u v 1 (f i u) → WorkDone w v (i + 1) (turns (i + 1) f w)
 done_turn f {w} a b =
     record { is_so = turns_turn f w a.is_so b.is_so; placed = b.placed; counts = b.counts ∙ a.counts; few = omega (arith, a.few, b.few) }
-
--- of a pass, which starts with nothing moved
-pub done_pass : {w v x : Work} {n : ℕ} → WorkDone (begun w) v n x → WorkDone w v n x
-done_pass d = record { is_so = d.is_so; placed = d.placed; counts = d.counts; few = d.few }

@@ -3,15 +3,12 @@ use Prim.Native.Nat.{ℕ, zero, suc, ◌+◌, ◌-◌, ◌≤◌, ◌<◌, ◌^�
 use mathlib.Core.Path.{◌≡◌, refl, sym, ap, subst, ◌∙◌}
 use mathlib.Core.List.{List, ◌++◌}
 use native.Mathlib.Omega.{arith}
-use lib.ListN.{length, get_or, take, drop}
+use lib.ListN.{length, take, drop}
 use Rattle.folds.specs.Fold.{over}
-use Rattle.folds.proofs.Sums.{sum_to_le}
-use Rattle.graph.specs.Graph.{Graph, vertices, edges, seen, crossing, cut, cut_of, Proper}
+use Rattle.graph.specs.Graph.{Graph, vertices, cut_of, Proper}
 use Rattle.graph.specs.Rows.{clusters, Hierarchy, rows_in}
 use Rattle.graph.specs.Coarse.{Stored}
 use Rattle.graph.proofs.Coarse.{stored_held}
-use Rattle.graph.proofs.Edges.{crossing_le}
-use Rattle.graph.specs.Totals.{Keyed}
 use Rattle.graph.specs.Table.{Good}
 use Rattle.refinement.specs.Entries.{state_of, GoodAt}
 use Rattle.refinement.specs.Pass.{Tally, tally_of, refined_on, refined_below, refined}
@@ -32,15 +29,11 @@ pub record Descent (G : Graph) (k bound : ℕ) (rows : ℕ → List ℕ) (top : 
   pub rest : refined_below G k bound rows r (tally_of parts moves) ≡ R
   pub room : moves + cut_of G parts < 2 ^ 32
 
-pub cut_small : (G : Graph) (parts : List ℕ) → edges G ≤ 1024 → ((j : ℕ) → get_or G.widths j 0 ≤ 65535) → cut_of G parts < 2 ^ 32
-unfolding cut
-cut_small G parts m w = omega (arith, sum_to_le (edges G) 65535 (crossing (seen G parts) G.widths) (crossing_le (seen G parts) G.widths 65535 w))
-
 module _ (G : Graph) (P : Proper G) (k bound : ℕ) (few : k ≤ 16) (rows : ℕ → List ℕ) (top : ℕ) (H : Hierarchy G rows top) where
-  pub descent_start : (parts : List ℕ) → Good G k bound (rows top) parts → ((j : ℕ) → get_or G.widths j 0 ≤ 65535)
+  pub descent_start : (parts : List ℕ) → Good G k bound (rows top) parts → cut_of G parts < 2 ^ 32
       → Descent G k bound rows top (refined G k bound rows top parts) (top + 1) parts 0
   unfolding refined
-  descent_start parts I w =
+  descent_start parts I small =
       let e : top + 1 ≡ suc top = omega arith in
       let d : top ≡ suc top - 1 = omega arith in
       rw e
@@ -48,7 +41,7 @@ module _ (G : Graph) (P : Proper G) (k bound : ℕ) (few : k ≤ 16) (rows : ℕ
         within = omega arith;
         good = subst (λ (x : ℕ). Good G k bound (rows x) parts) d I;
         rest = refl;
-        room = omega (arith, cut_small G parts P.many w);
+        room = omega arith;
       })
 
   good_lower : (r : ℕ) (parts : List ℕ) → GoodAt G k bound rows top (state_of r parts) → Good G k bound (rows (r - 1)) parts
@@ -112,7 +105,3 @@ front_refined {G} {k} {bound} {rows} {rung} table D parts e h =
     whole =
         rw p
         (refined_good G D.proper k bound (rows_in rows (vertices G)) rung D.hierarchy rung (take (vertices G) table) (record { kept = omega arith; table = D.good })).table.whole
-
--- the parts of a table that is to be refined
-pub descends_keyed : {G : Graph} {k bound : ℕ} {rows : List ℕ} {rung : ℕ} {parts : List ℕ} → Descends G k bound rows rung parts → Keyed parts G.costs 16
-descends_keyed D = record { same = D.good.whole; few = D.proper.few; low = λ v l. omega (arith, D.good.below v l, D.few) }

@@ -23,7 +23,7 @@ use Rattle.graph.specs.Table.{Good}
 use Rattle.refinement.specs.Pass.{Tally, tally_of, pass_of, measure, passes, repeated, refined_on}
 use Rattle.refinement.proofs.Entries.{alone}
 use Rattle.refinement.proofs.Own.{pass_steps, pass_falls, steps_good, steps_fall}
-use Rattle.neighbours.specs.Visit.{Placed, Listed, Indexed}
+use Rattle.neighbours.specs.Visit.{Placed, Indexed}
 use Rattle.part_sums.specs.declared.PartSums.{PartSums}
 use Rattle.pass.specs.declared.Progress.{Progress}
 use Rattle.pass.specs.Work.{Work, begun, worked}
@@ -142,9 +142,6 @@ module _ {G : Graph} {k bound : ℕ} {row parts : List ℕ} {moves : ℕ} (A : R
   ready_drawn C s =
       record { row_of = A.row_of; few = ready_few; onto = A.onto; cost = λ c l. totals_cost row G.costs s c (omega (arith, ready_few)); lists = C }
 
-  pub ready_listed : {froms tos widths : List ℕ} → Coarse G row (clusters row) froms tos widths → Listed froms tos widths
-  ready_listed C = record { ends = coarse_ended C ready_few; same_widths = C.same_widths; narrow = C.narrow; wide = C.wide }
-
   low : (v : ℕ) → v < length row → get_or row v 0 < 512
   low v l = omega (arith, A.row_of.below v (omega (arith, A.row_of.whole)), ready_few)
 
@@ -175,6 +172,3 @@ module _ {G : Graph} {k bound : ℕ} {row parts : List ℕ} {moves : ℕ} (A : R
 
   pub ready_settled : {table' l : List ℕ} {r : Progress} → Settled G k bound row table moves table' r → l ≡ through row table' → RefinedRow G k bound row parts moves l r
   ready_settled x e = record { is = rw e x.is ∙ ap (λ (t : List ℕ). refined_on G k bound row (tally_of t moves)) as_parts; tracks = rw e x.tracks }
-
-  pub ready_length : (table' : List ℕ) {l : List ℕ} → l ≡ through row table' → length l ≡ length parts
-  ready_length table' e = ap length e ∙ length-through row table' ∙ A.row_of.whole ∙ sym A.good.whole

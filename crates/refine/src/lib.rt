@@ -1,90 +1,77 @@
 // Refinement: passes over the clusters of a rung until one moves nothing, down the rungs.
 #![tactic(auto)]
 
-ghost use Rattle.std.specs.Prelude.{◌≡◌, suc, ◌*◌, ◌<◌, ◌≤◌, length, take};
-ghost use Rattle.graph.specs.Graph.{graph_of, joining, cut_of, through};
-ghost use Rattle.graph.specs.Rows.{clusters, rows_in};
-ghost use Rattle.graph.specs.Links.{Linked, leave};
-ghost use Rattle.graph.specs.Coarse.{Coarse, Stored, LinkedAt};
+ghost use Rattle.std.specs.Prelude.{◌≡◌, ◌*◌, ◌<◌, ◌≤◌, length, take};
+ghost use Rattle.graph.specs.Graph.{cut_of, through};
+ghost use Rattle.graph.specs.Lent.{graph_in};
+ghost use Rattle.graph.specs.Rows.{rows_in};
+ghost use Rattle.graph.specs.Coarse.{Stored, LinkedAt};
 ghost use Rattle.refinement.specs.Pass.{tally_of, refined};
-ghost use Rattle.neighbours.specs.Visit.{Placed};
 ghost use Rattle.refine.specs.Down.{RowLists, Descends, Refined};
 ghost use Rattle.refine.specs.Rung.{RowReady, Tracks, Settled, RefinedRow};
 ghost use Rattle.refine.specs.Tables.{Shared, Inherits};
 
+mod row;
+
+use graph::{EdgeLists, LinkTable, Lists, Problem, RowStore};
+use neighbours::{Numbers, PartTable, RowEdges};
 use part_sums::PartSums;
-use pass::Progress;
+use pass::{Progress, Row};
+use row::{JoinedRow, Ladder};
 
 // Gives each cluster the part of its vertices.
-fn inherit(row: &[u16], parts: &[u16], table: &mut [u16; 512])
-    requires shared { Shared row.now parts.now }
-    requires placed { Placed table.old }
-    ensures { Inherits row.now parts.now (length row.now) table.new }
+fn inherit(row: &[u16], parts: &[u16], table: &mut PartTable)
+    requires { Shared row.now parts.now }
+    ensures { Inherits row.now parts.now (length row.now) table.new.parts }
 {
-    let n = row.len();
-    let mut v: usize = 0;
-    while v < n {
-        let c = folds::at16(row, v);
-        let p = folds::at16(parts, v);
-        table[c] = p as u16;
-        v += 1;
+    for v in 0..row.len() {
+        table.parts[usize::from(row[v])] = parts[v];
     }
 }
 
-// Passes over the clusters of a row until one moves nothing. The links of the edges that leave each are lent; the graph's own edges are lent for
-// the contract alone.
-fn settle(
-    costs: &[u16],
-    starts: &[u16],
-    ends: &[u16],
-    widths: &[u16],
-    bound: u32,
-    row: &[u16],
-    from: &[u16],
-    to: &[u16],
-    width: &[u32],
-    head: &[u16; 513],
-    next: &[u16; 1024],
-    table: &mut [u16; 512],
-    before: Progress,
-) -> Progress
-    requires placed { Placed table.old }
-    requires tracks { Tracks (graph_of costs.now starts.now ends.now widths.now) (through row.now table.old) before.sums.count before.sums before.cut }
-    requires row_ready { RowReady (graph_of costs.now starts.now ends.now widths.now) before.sums.count bound row.now (through row.now table.old) before.moves }
-    requires coarse { Coarse (graph_of costs.now starts.now ends.now widths.now) row.now (clusters row.now) from.now to.now width.now }
-    requires linked { Linked (leave (joining from.now to.now)) (length from.now) head.now next.now }
-    ensures { Settled (graph_of costs.now starts.now ends.now widths.now) before.sums.count bound row.now table.old before.moves table.new result }
+// Passes over the clusters of a row until one moves nothing.
+fn settle(joined: JoinedRow<'_>, table: &mut PartTable, before: Progress) -> Progress
+    requires tracks { Tracks (graph_in joined.lists) (through joined.row.now table.old.parts) before.sums.count before.sums before.cut }
+    requires row_ready { RowReady (graph_in joined.lists) before.sums.count joined.bound joined.row.now (through joined.row.now table.old.parts) before.moves }
+    ensures { Settled (graph_in joined.entry.lists) before.sums.count joined.entry.bound joined.entry.row.now table.old.parts before.moves table.new.parts result }
 {
-    let mut head_in = [0u16; 513];
-    let mut next_in = [0u16; 1024];
-    graph::link_leaving(to, from, &mut head_in, &mut next_in);
-    let mut cluster_costs = [0u32; 512];
-    graph::sum_costs(row, costs, &mut cluster_costs);
-    let g = graph::cluster_count(row);
-    let mut low = [0u16; 512];
-    let mut high = [0u16; 512];
-    let mut marks = [0u8; 512];
-    let k = before.sums.count;
-    neighbours::survey(from, to, table, k, g, &mut low, &mut high, &mut marks);
+    let out = EdgeLists {
+        starts: joined.from,
+        ends: joined.to,
+    };
+    let back = EdgeLists {
+        starts: joined.to,
+        ends: joined.from,
+    };
+    let mut into = LinkTable {
+        head: [0u16; 513],
+        next: [0u16; 1024],
+    };
+    graph::link_leaving(back, &mut into);
+    let mut costs = [0u32; 512];
+    graph::sum_costs(joined.row, joined.lists.costs, &mut costs);
+    let g = graph::cluster_count(joined.row);
+    let mut numbers = Numbers {
+        low: [0u16; 512],
+        high: [0u16; 512],
+        marks: [0u8; 512],
+    };
+    neighbours::survey(out, table, before.sums.count, g, &mut numbers);
+    let edges = RowEdges {
+        from: joined.from,
+        to: joined.to,
+        out: joined.links,
+        into: &into,
+    };
+    let row = Row {
+        edges,
+        widths: joined.widths,
+        costs: &costs,
+        bound: joined.bound,
+    };
     let mut p = before;
     loop {
-        p = pass::pass(
-            from,
-            to,
-            width,
-            head,
-            next,
-            &head_in,
-            &next_in,
-            &cluster_costs,
-            bound,
-            g,
-            &mut low,
-            &mut high,
-            &mut marks,
-            table,
-            p,
-        );
+        p = pass::pass(&row, g, table, &mut numbers, p);
         if !p.moved {
             return p;
         }
@@ -92,105 +79,66 @@ fn settle(
 }
 
 // The refinement on one row, by the lists of its edges, from a table of the vertices' parts, its sums and its cut.
-fn refine_row(
-    costs: &[u16],
-    starts: &[u16],
-    ends: &[u16],
-    widths: &[u16],
-    bound: u32,
-    row: &[u16],
-    from: &[u16],
-    to: &[u16],
-    width: &[u32],
-    head: &[u16; 513],
-    next: &[u16; 1024],
-    parts: &mut [u16],
-    before: Progress,
-) -> Progress
-    requires row_ready { RowReady (graph_of costs.now starts.now ends.now widths.now) before.sums.count bound row.now parts.old before.moves }
-    requires tracks { Tracks (graph_of costs.now starts.now ends.now widths.now) parts.old before.sums.count before.sums before.cut }
-    requires coarse { Coarse (graph_of costs.now starts.now ends.now widths.now) row.now (clusters row.now) from.now to.now width.now }
-    requires linked { Linked (leave (joining from.now to.now)) (length from.now) head.now next.now }
-    ensures { RefinedRow (graph_of costs.now starts.now ends.now widths.now) before.sums.count bound row.now parts.old before.moves parts.new result }
+fn refine_row(joined: JoinedRow<'_>, parts: &mut [u16], before: Progress) -> Progress
+    requires row_ready { RowReady (graph_in joined.lists) before.sums.count joined.bound joined.row.now parts.old before.moves }
+    requires tracks { Tracks (graph_in joined.lists) parts.old before.sums.count before.sums before.cut }
+    ensures { RefinedRow (graph_in joined.entry.lists) before.sums.count joined.entry.bound joined.entry.row.now parts.old before.moves parts.new result }
 {
-    let mut table = [0u16; 512];
-    inherit(row, parts, &mut table);
-    let after = settle(
-        costs, starts, ends, widths, bound, row, from, to, width, head, next, &mut table, before,
-    );
-    graph::through(row, &table, parts);
+    let mut table = PartTable { parts: [0u16; 512] };
+    inherit(joined.row, parts, &mut table);
+    let after = settle(joined, &mut table, before);
+    graph::through(joined.row, &table.parts, parts);
     after
 }
 
 // The refinement on row r: the part of the ladder from r × n on, with the lists of its edges, the parts of the lists from r × m on.
 fn refine_at(
-    costs: &[u16],
-    starts: &[u16],
-    ends: &[u16],
-    widths: &[u16],
-    bound: u32,
-    rows: &[u16],
-    from: &[u16],
-    to: &[u16],
-    width: &[u32],
-    sizes: &[u16; 9],
-    head: &[u16; 513],
-    next: &[u16; 1024],
+    ladder: Ladder<'_>,
     r: usize,
+    links: &LinkTable,
     parts: &mut [u16],
     before: Progress,
 ) -> Progress
-    requires row_ready { RowReady (graph_of costs.now starts.now ends.now widths.now) before.sums.count bound (rows_in rows.now (length costs.now) r) parts.old before.moves }
-    requires tracks { Tracks (graph_of costs.now starts.now ends.now widths.now) parts.old before.sums.count before.sums before.cut }
-    requires stored { Stored (graph_of costs.now starts.now ends.now widths.now) (rows_in rows.now (length costs.now)) r (length starts.now) from.now to.now width.now sizes.now }
-    requires linked_at { LinkedAt (length starts.now) r from.now to.now sizes.now head.now next.now }
-    requires costs_in_bounds { (suc r * length costs.now ≤ length rows.now) × (r < 9) × (length sizes.now ≡ 9) }
-    ensures { RefinedRow (graph_of costs.now starts.now ends.now widths.now) before.sums.count bound (rows_in rows.now (length costs.now) r) parts.old before.moves parts.new result }
+    requires row_ready { RowReady (graph_in ladder.lists) before.sums.count ladder.bound (rows_in ladder.rows.now (length ladder.lists.costs.now) r) parts.old before.moves }
+    requires tracks { Tracks (graph_in ladder.lists) parts.old before.sums.count before.sums before.cut }
+    requires linked_at { LinkedAt (length ladder.lists.starts.now) r ladder.froms.now ladder.tos.now ladder.sizes.now links.now.head links.now.next }
+    requires r_bound { r ≤ ladder.rung }
+    ensures { RefinedRow (graph_in ladder.entry.lists) before.sums.count ladder.entry.bound (rows_in ladder.entry.rows.now (length ladder.entry.lists.costs.now) r) parts.old before.moves parts.new result }
 {
-    let n = costs.len();
-    let m = starts.len();
+    let n = ladder.lists.costs.len();
+    let m = ladder.lists.starts.len();
     let a = r * n;
     let b = r * m;
-    let e = b + folds::wide(sizes[r]);
-    refine_row(
-        costs,
-        starts,
-        ends,
-        widths,
-        bound,
-        &rows[a..a + n],
-        &from[b..e],
-        &to[b..e],
-        &width[b..e],
-        head,
-        next,
-        parts,
-        before,
-    )
+    let e = b + usize::from(ladder.sizes[r]);
+    let joined = JoinedRow {
+        lists: ladder.lists,
+        bound: ladder.bound,
+        row: &ladder.rows[a..a + n],
+        from: &ladder.froms[b..e],
+        to: &ladder.tos[b..e],
+        widths: &ladder.wides[b..e],
+        links,
+    };
+    refine_row(joined, parts, before)
 }
 
 // Fills the links for row r, whose lists lie from r × m on, where this is not the rung for which they are lent.
-fn link_row(
-    m: usize,
-    from: &[u16],
-    to: &[u16],
-    sizes: &[u16; 9],
-    rung: usize,
-    r: usize,
-    head: &mut [u16; 513],
-    next: &mut [u16; 1024],
-)
-    requires row_lists { RowLists m r from.now to.now sizes.now }
-    requires r_bound { (r < 9) × (length sizes.now ≡ 9) × (length next.old ≡ 1024) }
-    requires linked_at { r ≡ rung → LinkedAt m r from.now to.now sizes.now head.old next.old }
-    ensures { LinkedAt m r from.now to.now sizes.now head.new next.new }
+fn link_row(ladder: Ladder<'_>, r: usize, links: &mut LinkTable)
+    requires row_lists { RowLists (length ladder.lists.starts.now) r ladder.froms.now ladder.tos.now ladder.sizes.now }
+    requires r_bound { r < 9 }
+    requires linked_at { r ≡ ladder.rung → LinkedAt (length ladder.lists.starts.now) r ladder.froms.now ladder.tos.now ladder.sizes.now links.old.head links.old.next }
+    ensures { LinkedAt (length ladder.entry.lists.starts.now) r ladder.entry.froms.now ladder.entry.tos.now ladder.entry.sizes.now links.new.head links.new.next }
 {
-    if r == rung {
+    if r == ladder.rung {
         return;
     }
-    let a = r * m;
-    let e = a + folds::wide(sizes[r]);
-    graph::link_leaving(&from[a..e], &to[a..e], head, next);
+    let a = r * ladder.lists.starts.len();
+    let e = a + usize::from(ladder.sizes[r]);
+    let edges = EdgeLists {
+        starts: &ladder.froms[a..e],
+        ends: &ladder.tos[a..e],
+    };
+    graph::link_leaving(edges, links);
 }
 
 // What a refinement answers.
@@ -202,46 +150,28 @@ pub struct Outcome {
 
 // The refinement on a rung and then on each lower one. The sums and the cut go from row to row.
 fn refine_down(
-    costs: &[u16],
-    starts: &[u16],
-    ends: &[u16],
-    widths: &[u16],
+    ladder: Ladder<'_>,
     k: usize,
-    bound: u32,
-    rows: &[u16],
-    from: &[u16],
-    to: &[u16],
-    width: &[u32],
-    sizes: &[u16; 9],
-    head: &mut [u16; 513],
-    next: &mut [u16; 1024],
-    rung: usize,
+    links: &mut LinkTable,
     cut: u32,
     parts: &mut [u16],
 ) -> Outcome
-    requires descends { Descends (graph_of costs.now starts.now ends.now widths.now) k bound rows.now rung parts.old }
-    requires stored { Stored (graph_of costs.now starts.now ends.now widths.now) (rows_in rows.now (length costs.now)) rung (length starts.now) from.now to.now width.now sizes.now }
-    requires linked_at { LinkedAt (length starts.now) rung from.now to.now sizes.now head.old next.old }
-    requires rung_bound { (rung < 9) × (length sizes.now ≡ 9) }
-    requires cut_value { cut ≡ cut_of (graph_of costs.now starts.now ends.now widths.now) parts.old }
-    ensures moves_after { tally_of parts.new result.moves ≡ refined (graph_of costs.now starts.now ends.now widths.now) k bound (rows_in rows.now (length costs.now)) rung parts.old }
-    ensures cut_value_2 { result.cut ≡ cut_of (graph_of costs.now starts.now ends.now widths.now) parts.new }
+    requires descends { Descends (graph_in ladder.lists) k ladder.bound ladder.rows.now ladder.rung parts.old }
+    requires linked_at { LinkedAt (length ladder.lists.starts.now) ladder.rung ladder.froms.now ladder.tos.now ladder.sizes.now links.old.head links.old.next }
+    requires cut_value { cut ≡ cut_of (graph_in ladder.lists) parts.old }
+    ensures moves_after { tally_of parts.new result.moves ≡ refined (graph_in ladder.entry.lists) k ladder.entry.bound (rows_in ladder.entry.rows.now (length ladder.entry.lists.costs.now)) ladder.entry.rung parts.old }
+    ensures cut_value_2 { result.cut ≡ cut_of (graph_in ladder.entry.lists) parts.new }
 {
-    let sums = PartSums::of_table(costs, parts, k);
+    let sums = PartSums::of_table(ladder.lists.costs, parts, k);
     let mut p = Progress {
-        sums: sums,
-        cut: cut,
+        sums,
+        cut,
         moves: 0,
         moved: false,
     };
-    let mut r = rung + 1;
-    while r > 0 {
-        r -= 1;
-        link_row(starts.len(), from, to, sizes, rung, r, head, next);
-        p = refine_at(
-            costs, starts, ends, widths, bound, rows, from, to, width, sizes, head, next, r, parts,
-            p,
-        );
+    for r in (0..ladder.rung + 1).rev() {
+        link_row(ladder, r, links);
+        p = refine_at(ladder, r, links, parts, p);
     }
     Outcome {
         cut: p.cut,
@@ -251,49 +181,37 @@ fn refine_down(
 
 // The refinement of a table, whose cut is given, from a rung of the ladder down to the vertices, by the stored lists of the rungs' edges and
 // the links of that rung's edges. The links are written over; entries of the table past the vertices are untouched.
-pub fn refine(
-    costs: &[u16],
-    starts: &[u16],
-    ends: &[u16],
-    widths: &[u16],
-    k: usize,
-    bound: u32,
-    rows: &[u16],
-    from: &[u16],
-    to: &[u16],
-    width: &[u32],
-    sizes: &[u16; 9],
-    head: &mut [u16; 513],
-    next: &mut [u16; 1024],
+pub fn refine<'x, 'y>(
+    problem: Problem<'x>,
+    rows: &'x [u16],
+    store: &'x RowStore<'y>,
+    links: &mut LinkTable,
     rung: usize,
     cut: u32,
     table: &mut [u16],
 ) -> Outcome
-    requires costs_in_bounds { length costs.now ≤ length table.old }
-    requires descends { Descends (graph_of costs.now starts.now ends.now widths.now) k bound rows.now rung (take (length costs.now) table.old) }
-    requires stored { Stored (graph_of costs.now starts.now ends.now widths.now) (rows_in rows.now (length costs.now)) rung (length starts.now) from.now to.now width.now sizes.now }
-    requires linked_at { LinkedAt (length starts.now) rung from.now to.now sizes.now head.old next.old }
-    requires rung_bound { (rung < 9) × (length sizes.now ≡ 9) }
-    requires cut_value { cut ≡ cut_of (graph_of costs.now starts.now ends.now widths.now) (take (length costs.now) table.old) }
-    ensures { Refined (graph_of costs.now starts.now ends.now widths.now) k bound rows.now rung table.old table.new result }
+    requires costs_in_bounds { length problem.lists.costs.now ≤ length table.old }
+    requires descends { Descends (graph_in problem.lists) problem.k problem.bound rows.now rung (take (length problem.lists.costs.now) table.old) }
+    requires stored { Stored (graph_in problem.lists) (rows_in rows.now (length problem.lists.costs.now)) rung (length problem.lists.starts.now) store.now.froms.now store.now.tos.now store.now.wides.now store.now.sizes }
+    requires linked_at { LinkedAt (length problem.lists.starts.now) rung store.now.froms.now store.now.tos.now store.now.sizes links.old.head links.old.next }
+    requires rung_bound { rung < 9 }
+    requires cut_value { cut ≡ cut_of (graph_in problem.lists) (take (length problem.lists.costs.now) table.old) }
+    ensures { Refined (graph_in problem.entry.lists) problem.entry.k problem.entry.bound rows.now rung table.old table.new result }
 {
-    let n = costs.len();
-    refine_down(
-        costs,
-        starts,
-        ends,
-        widths,
-        k,
+    let Problem { lists, k, bound } = problem;
+    let froms = &*store.froms;
+    let tos = &*store.tos;
+    let wides = &*store.wides;
+    let ladder = Ladder {
+        lists,
         bound,
         rows,
-        from,
-        to,
-        width,
-        sizes,
-        head,
-        next,
+        froms,
+        tos,
+        wides,
+        sizes: &store.sizes,
         rung,
-        cut,
-        &mut table[..n],
-    )
+    };
+    let n = lists.costs.len();
+    refine_down(ladder, k, links, cut, &mut table[..n])
 }

@@ -7,7 +7,7 @@ use Prim.Native.Nat.{◌-◌}
 use Rattle.neighbours.proofs.add_widths.Given as goal
 
 abbrev pub invariant-loop-j : goal.invariant-loop-j
-invariant-loop-j l = (l.m ≡ length l.near) × On (λ i. get_or l.near i 0) l.m l.h l.j × Added l.near l.far l.widths l.table l.h l.j l.initial.toward l.toward
+invariant-loop-j l = (l.m ≡ length l.side.near.now) × On (λ i. get_or l.side.near.now i 0) l.m l.h l.j × Added l.side.near.now l.side.far.now l.widths l.table.parts l.h l.j l.initial.toward l.toward
 
 abbrev pub decreases-loop-j : goal.decreases-loop-j
 decreases-loop-j l = l.m - l.j

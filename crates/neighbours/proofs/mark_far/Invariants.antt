@@ -7,7 +7,7 @@ use Prim.Native.Nat.{◌-◌}
 use Rattle.neighbours.proofs.mark_far.Given as goal
 
 abbrev pub invariant-loop-j : goal.invariant-loop-j
-invariant-loop-j l = (l.m ≡ length l.near) × On (λ i. get_or l.near i 0) l.m l.h l.j × Staled l.near l.far l.numbers l.first l.last l.h l.j l.initial.marks l.marks
+invariant-loop-j l = (l.m ≡ length l.side.near.now) × On (λ i. get_or l.side.near.now i 0) l.m l.h l.j × Staled l.side.near.now l.side.far.now l.numbers l.first l.last l.h l.j l.initial.marks l.marks
 
 abbrev pub decreases-loop-j : goal.decreases-loop-j
 decreases-loop-j l = l.m - l.j

@@ -3,4 +3,4 @@ use Rattle.neighbours.proofs.Known.{known_new}
 use Rattle.neighbours.proofs.survey.Goals as goal
 
 pub returns : goal.returns
-returns c = known_new c.sweep.ensures c.mark_open.ensures
+returns c = let (l, h) = c.mark_open.ensures.same in known_new {g = c.args.g} (rw (l, h) c.sweep.ensures) (rw (l, h) c.mark_open.ensures.opened)

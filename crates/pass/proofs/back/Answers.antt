@@ -4,8 +4,8 @@ use native.Mathlib.Omega.{arith}
 use borrow.Author.Rules.{rules}
 use Rattle.pass.proofs.back.Goals as goal
 
-pub returns-then-high-eq0 : goal.returns-then-high-eq0
-returns-then-high-eq0 c = record {
+pub returns-then-visit-eq0 : goal.returns-then-visit-eq0
+returns-then-visit-eq0 c = record {
   value = search back_none;
   upper_bound = omega arith;
 }

@@ -1,12 +1,16 @@
--- Each branch is one test of `back_allowed`.
-use Rattle.pass.proofs.Work.{back_never, back_own, back_lets}
+-- The two numbers let it be asked, or the answer is no.
+use Rattle.pass.specs.Work.{back_allowed}
+use Rattle.folds.proofs.Cases.{cases, no_bool}
+use borrow.Author.Tests.{le-ltb}
+use mathlib.Core.Path.{sym, ◌∙◌}
 use Rattle.pass.proofs.back_allowed.Goals as goal
+use Rattle.pass.proofs.back_allowed.Goals.{then-visit-gt0, else-visit-gt0}
 
-pub returns-then-high-eq0 : goal.returns-then-high-eq0
-returns-then-high-eq0 c = search back_never
+pub returns-then-visit : goal.returns-then-visit
+unfolding back_allowed
+returns-then-visit c =
+    elim c.if-visit-gt0.branch [ then-visit-gt0 w ↦ search (cases, sym w.value-is ∙ c.if-visit.true) | else-visit-gt0 w ↦ absurd (no_bool (sym (le-ltb _ _ w.if-visit-gt0.false) ∙ sym w.value-is ∙ c.if-visit.true)) ]
 
-pub returns-then-own-high : goal.returns-then-own-high
-returns-then-own-high c = search back_own
-
-pub returns : goal.returns
-returns c = search back_lets
+pub returns-else-visit : goal.returns-else-visit
+unfolding back_allowed
+returns-else-visit c = elim c.if-visit-gt0.branch [ then-visit-gt0 w ↦ search (cases, sym w.value-is ∙ c.if-visit.false) | else-visit-gt0 w ↦ search (cases, w.if-visit-gt0.false) ]

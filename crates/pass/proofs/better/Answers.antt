@@ -1,45 +1,20 @@
--- Each branch is one test of `better_of`.
+-- All tests of `better_of` hold, or one of them fails.
 use Rattle.pass.specs.Work.{better_of}
 use Rattle.folds.proofs.Cases.{cases}
 use mathlib.Core.Path.{sym, ◌∙◌}
-use native.Mathlib.Omega.{arith}
 use Rattle.pass.proofs.better.Goals as goal
+use Rattle.pass.proofs.better.Goals.{else-visit-t-via-then-visit-t+then-beats+then-gains+else-lets, else-visit-t-via-then-visit-t+then-beats+else-gains, else-visit-t-via-then-visit-t+else-beats, else-visit-t-via-else-visit-t}
 
-pub returns-then-own-t : goal.returns-then-own-t
+pub returns-then-lets-clause-value : goal.returns-then-lets-clause-value
 unfolding better_of
-returns-then-own-t c = record {
-  value = search cases;
-  upper_bound = omega arith;
-}
+returns-then-lets-clause-value c =
+    search (cases, sym c.beats.ensures ∙ c.if-beats.true, sym c.gains.ensures ∙ c.if-gains.true, sym c.lets.ensures ∙ c.if-lets.true)
 
-pub returns-then-not-ahead : goal.returns-then-not-ahead
+pub returns-else-visit-t-clause-value : goal.returns-else-visit-t-clause-value
 unfolding better_of
-returns-then-not-ahead c = record {
-  value = search (cases, sym c.beats-ahead.ensures ∙ c.if-not-ahead.true);
-  upper_bound = omega arith;
-}
-
-pub returns-then-not-gain : goal.returns-then-not-gain
-unfolding better_of
-returns-then-not-gain c = record {
-  value = search (cases, sym c.beats-ahead.ensures ∙ c.if-not-ahead.false, sym c.gains-gain.ensures ∙ c.if-not-gain.true);
-  upper_bound = omega arith;
-}
-
-pub returns-then-allowed : goal.returns-then-allowed
-unfolding better_of
-returns-then-allowed c = let b = sym c.beats-ahead.ensures ∙ c.if-not-ahead.false in
-    let g = sym c.gains-gain.ensures ∙ c.if-not-gain.false in
-    record {
-      value = search (cases, b, g, sym c.lets-allowed.ensures ∙ c.if-allowed.true);
-      upper_bound = omega arith;
-    }
-
-pub returns : goal.returns
-unfolding better_of
-returns c = let b = sym c.beats-ahead.ensures ∙ c.if-not-ahead.false in
-    let g = sym c.gains-gain.ensures ∙ c.if-not-gain.false in
-    record {
-      value = search (cases, b, g, sym c.lets-allowed.ensures ∙ c.if-allowed.false);
-      upper_bound = omega arith;
-    }
+returns-else-visit-t-clause-value c = elim c.else-visit-t.branch [
+  | else-visit-t-via-then-visit-t+then-beats+then-gains+else-lets w ↦ search (cases, sym w.beats.ensures ∙ w.if-beats.true, sym w.gains.ensures ∙ w.if-gains.true, sym w.lets.ensures ∙ w.if-lets.false)
+  | else-visit-t-via-then-visit-t+then-beats+else-gains w ↦ search (cases, sym w.beats.ensures ∙ w.if-beats.true, sym w.gains.ensures ∙ w.if-gains.false)
+  | else-visit-t-via-then-visit-t+else-beats w ↦ search (cases, sym w.beats.ensures ∙ w.if-beats.false)
+  | else-visit-t-via-else-visit-t w ↦ search (cases, w.if-visit-t.false)
+]

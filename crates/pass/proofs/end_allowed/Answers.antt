@@ -1,15 +1,17 @@
 -- The first half of the test holds, or the second decides.
-use Rattle.pass.proofs.Work.{ahead_own, ahead_none, ahead_lets, either_first, either_second}
+use Rattle.pass.specs.Work.{ahead_allowed}
+use Rattle.folds.proofs.Cases.{cases, no_bool}
+use borrow.Author.Tests.{le-ltb}
+use mathlib.Core.Path.{sym, ◌∙◌}
 use Rattle.pass.proofs.end_allowed.Goals as goal
+use Rattle.pass.proofs.end_allowed.Goals.{then-visit, else-visit}
 
-pub returns-then-back : goal.returns-then-back
-returns-then-back c = either_first _ c.back_allowed-back.ensures c.if-back.true
+pub returns-then-visit-2 : goal.returns-then-visit-2
+unfolding ahead_allowed
+returns-then-visit-2 c = let b = sym c.back_allowed.ensures ∙ c.if-back_allowed.false in
+    elim c.if-visit.branch [ then-visit w ↦ search (cases, b, sym w.value-is ∙ c.if-visit-2.true) | else-visit w ↦ absurd (no_bool (sym (le-ltb _ _ w.if-visit.false) ∙ sym w.value-is ∙ c.if-visit-2.true)) ]
 
-pub returns-then-low-own : goal.returns-then-low-own
-returns-then-low-own c = either_second c.back_allowed-back.ensures c.if-back.false (ahead_own _ _ _ _ _ c.if-low-own.true)
-
-pub returns-then-sums-low : goal.returns-then-sums-low
-returns-then-sums-low c = either_second c.back_allowed-back.ensures c.if-back.false (ahead_none _ _ _ _ _ c.if-sums-low.true)
-
-pub returns : goal.returns
-returns c = either_second c.back_allowed-back.ensures c.if-back.false (ahead_lets _ _ _ _ _ c.if-low-own.false c.if-sums-low.false c.lets.ensures)
+pub returns-else-visit-2 : goal.returns-else-visit-2
+unfolding ahead_allowed
+returns-else-visit-2 c = let b = sym c.back_allowed.ensures ∙ c.if-back_allowed.false in
+    elim c.if-visit.branch [ then-visit w ↦ search (cases, b, sym w.value-is ∙ c.if-visit-2.false) | else-visit w ↦ search (cases, b, w.if-visit.false) ]

@@ -3,8 +3,8 @@ use Rattle.pass.proofs.Work.{ends_none, ends_tried}
 use borrow.Author.Rules.{rules}
 use Rattle.pass.proofs.ends.Goals as goal
 
-pub returns-then-sums-low : goal.returns-then-sums-low
-returns-then-sums-low c = record {
+pub returns-then-visit : goal.returns-then-visit
+returns-then-visit c = record {
   value = search ends_none;
   upper_bound = search rules;
 }

@@ -1,13 +1,10 @@
--- No part from high on and below t evens and is allowed, and t evens.
+-- No part from high on and below first evens and is allowed.
 use Rattle.pass.specs.Work.{NoneEvens}
-use Rattle.part_sums.specs.Sums.{sums_even}
-use Prim.Native.Nat.{◌≤◌, ◌<◌, ◌-◌, min}
-use mathlib.Core.Path.{◌≡◌}
-use mathlib.Core.Bool.{true}
+use Prim.Native.Nat.{◌≤◌, ◌-◌, min}
 use Rattle.pass.proofs.first_even.Given as goal
 
 abbrev pub invariant-loop-t : goal.invariant-loop-t
-invariant-loop-t l = (l.end ≤ 16) × (l.end ≡ min l.low l.sums.count) × (l.t < l.end → (l.high ≤ l.t) × (sums_even l.sums l.own l.t l.cost ≡ true)) × NoneEvens l.sums l.own l.cost l.bound l.high (min l.t l.end)
+invariant-loop-t l = (l.visit.high ≤ l.first) × NoneEvens l.visit.sums.now l.visit.own l.visit.cost l.visit.bound l.visit.high (min l.first l.end)
 
 abbrev pub decreases-loop-t : goal.decreases-loop-t
-decreases-loop-t l = l.end - l.t
+decreases-loop-t l = l.end - l.first

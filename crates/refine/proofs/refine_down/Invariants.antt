@@ -3,7 +3,7 @@ use Rattle.refine.proofs.Down.{Descent}
 use Rattle.refine.specs.Rung.{Tracks}
 use Rattle.graph.specs.Coarse.{LinkedAt}
 use Rattle.graph.specs.Rows.{rows_in}
-use Rattle.graph.specs.Graph.{graph_of}
+use Rattle.graph.specs.Lent.{graph_in}
 use Rattle.refinement.specs.Pass.{refined}
 use Prim.Native.Nat.{◌+◌}
 use mathlib.Core.Path.{◌≡◌}
@@ -11,11 +11,9 @@ use lib.ListN.{length}
 use Rattle.refine.proofs.refine_down.Given as goal
 
 abbrev pub invariant-loop-r : goal.invariant-loop-r
-invariant-loop-r l = Descent (graph_of l.costs l.starts l.ends l.widths) l.k l.bound (rows_in l.rows (length l.costs)) l.rung
-    (refined (graph_of l.costs l.starts l.ends l.widths) l.k l.bound (rows_in l.rows (length l.costs)) l.rung l.initial.parts) l.r l.parts l.p.moves
-    × Tracks (graph_of l.costs l.starts l.ends l.widths) l.parts l.k l.p.sums l.p.cut
-    × (length l.next ≡ 1024)
-    × (l.r ≡ l.rung + 1 → LinkedAt (length l.starts) l.rung l.from l.to l.sizes l.head l.next)
-
-abbrev pub decreases-loop-r : goal.decreases-loop-r
-decreases-loop-r l = l.r
+invariant-loop-r l = record {
+  descent : Descent (graph_in l.ladder.lists) l.k l.ladder.bound (rows_in l.ladder.rows.now (length l.ladder.lists.costs.now)) l.ladder.rung
+      (refined (graph_in l.ladder.lists) l.k l.ladder.bound (rows_in l.ladder.rows.now (length l.ladder.lists.costs.now)) l.ladder.rung l.initial.parts) l.r l.parts l.p.moves;
+  tracks : Tracks (graph_in l.ladder.lists) l.parts l.k l.p.sums l.p.cut;
+  links : l.r ≡ l.ladder.rung + 1 → LinkedAt (length l.ladder.lists.starts.now) l.ladder.rung l.ladder.froms.now l.ladder.tos.now l.ladder.sizes.now l.links.head l.links.next;
+}

@@ -1,18 +1,14 @@
-use Rattle.refine.proofs.Rung.{coarse_indexed, ready_few, ready_keyed, ready_drawn, ready_listed, ready_stands, stands_fall, stands_turn, stands_end}
+use Rattle.refine.proofs.Rung.{coarse_ended, coarse_indexed, ready_few, ready_keyed, ready_drawn, ready_stands, stands_fall, stands_turn, stands_end}
 use Rattle.refine.proofs.Bridge.{pass_visitable}
 use Rattle.pass.specs.Work.{work_of}
 use Rattle.graph.proofs.Totals.{zero_sums}
 use Rattle.neighbours.proofs.Laws.{ended_back}
 use Rattle.folds.proofs.Cases.{not_yes, not_no}
-use mathlib.Core.Path.{refl}
 use native.Mathlib.Omega.{arith}
 use Rattle.refine.proofs.settle.Goals as goal
 
-pub link_leaving-requires : goal.link_leaving-requires
-link_leaving-requires c = record {
-  ended = ended_back (ready_listed c.requires.row_ready c.requires.coarse).ends;
-  next_len = refl;
-}
+pub invariant_of-back : goal.invariant_of-back
+invariant_of-back c = record { ended = ended_back (coarse_ended c.args.joined.coarse (ready_few c.requires.row_ready)) }
 
 pub sum_costs-requires : goal.sum_costs-requires
 sum_costs-requires c = record {
@@ -21,31 +17,40 @@ sum_costs-requires c = record {
 }
 
 pub survey-requires : goal.survey-requires
-survey-requires c = record {
-  ended = (ready_listed c.requires.row_ready c.requires.coarse).ends;
-  placed = c.requires.placed;
-  k_bound = (c.requires.row_ready.few, omega (arith, c.cluster_count-g.ensures, ready_few c.requires.row_ready));
+survey-requires c = (c.requires.row_ready.few, omega (arith, c.cluster_count-g.ensures, ready_few c.requires.row_ready))
+
+pub invariant_of-edges : goal.invariant_of-edges
+invariant_of-edges c = record {
+  ended = coarse_ended c.args.joined.coarse (ready_few c.requires.row_ready);
+  indexed = coarse_indexed c.args.joined.coarse c.args.joined.linked c.link_leaving.ensures;
 }
 
 pub loop-p-init : goal.loop-p-init
-loop-p-init c = (c.cluster_count-g.ensures, c.sum_costs.ensures.long, coarse_indexed c.requires.coarse c.requires.linked c.link_leaving.ensures, ready_drawn c.requires.row_ready c.requires.coarse c.sum_costs.ensures, ready_stands _ c.requires.row_ready c.requires.tracks c.requires.placed, c.survey.ensures)
-
-pub pass-p-requires : goal.pass-p-requires
-pass-p-requires c = record {
-  listed = ready_listed c.requires.row_ready c.requires.coarse;
-  indexed = c.loop-p.invariant.2;
-  placed = c.loop-p.invariant.4.placed;
-  known = rw c.loop-p.invariant.4.tracks.sums.counts c.loop-p.invariant.5;
-  g_bound = (omega (arith, ready_few c.requires.row_ready), c.loop-p.invariant.1, omega (arith, c.loop-p.invariant.4.tracks.sums.counts, c.requires.row_ready.few), omega (arith, c.loop-p.invariant.4.room));
-  by_index = λ j l. pass_visitable _ c.requires.row_ready.proper _ _ c.requires.row_ready.few _ _ _ _ _ c.loop-p.invariant.3 (work_of c.loop-p.table c.loop-p.p) c.loop-p.invariant.4.tracks c.loop-p.invariant.4.placed c.loop-p.invariant.4.good j (omega (arith, c.loop-p.invariant.0));
+loop-p-init c = record {
+  whole = c.cluster_count-g.ensures;
+  drawn = ready_drawn c.requires.row_ready c.args.joined.coarse c.sum_costs.ensures;
+  stands = ready_stands _ c.requires.row_ready c.requires.tracks c.args.table.now.placed;
+  known = c.survey.ensures;
 }
 
+pub pass-p-requires-clause-by_index : goal.pass-p-requires-clause-by_index
+pass-p-requires-clause-by_index c = let I = c.loop-p.invariant in
+    λ j l. pass_visitable _ c.requires.row_ready.proper _ _ c.requires.row_ready.few _ _ _ _ _ I.drawn (work_of c.loop-p.table.parts c.loop-p.p) I.stands.tracks I.stands.placed I.stands.good j (omega (arith, I.whole))
+
 pub returns-then-not-p : goal.returns-then-not-p
-returns-then-not-p c = let (e, s) = stands_end _ c.requires.row_ready.proper _ _ c.requires.row_ready.few _ _ _ _ _ c.loop-p.invariant.3 _ _ _ c.loop-p.invariant.4 _ c.loop-p.invariant.0 c.pass-p.ensures.work_done.is_so (not_yes _ c.if-not-p.true) in
+returns-then-not-p c = let I = c.loop-p.invariant in
+    let (e, s) = stands_end _ c.requires.row_ready.proper _ _ c.requires.row_ready.few _ _ _ _ _ I.drawn _ _ _ I.stands _ I.whole c.pass-p.ensures.work_done.is_so (not_yes _ c.if-not-p.true) in
     record { is = e; tracks = s; placed = c.pass-p.ensures.work_done.placed }
 
 pub loop-p-smaller : goal.loop-p-smaller
-loop-p-smaller c = stands_fall _ c.requires.row_ready.proper _ _ c.requires.row_ready.few _ _ _ _ _ c.loop-p.invariant.3 _ _ _ c.loop-p.invariant.4 _ c.loop-p.invariant.0 c.pass-p.ensures.work_done.is_so (not_no _ c.if-not-p.false)
+loop-p-smaller c = let I = c.loop-p.invariant in
+    stands_fall _ c.requires.row_ready.proper _ _ c.requires.row_ready.few _ _ _ _ _ I.drawn _ _ _ I.stands _ I.whole c.pass-p.ensures.work_done.is_so (not_no _ c.if-not-p.false)
 
 pub loop-p-preserved : goal.loop-p-preserved
-loop-p-preserved c = (c.loop-p.invariant.0, c.loop-p.invariant.1, c.loop-p.invariant.2, c.loop-p.invariant.3, stands_turn _ c.requires.row_ready.proper _ _ c.requires.row_ready.few _ _ _ _ _ c.loop-p.invariant.3 _ _ _ c.loop-p.invariant.4 _ c.loop-p.invariant.0 c.pass-p.ensures.work_done.is_so (not_no _ c.if-not-p.false), rw c.loop-p.invariant.4.tracks.sums.counts at c.pass-p.ensures.known_2)
+loop-p-preserved c = let I = c.loop-p.invariant in
+    record {
+      whole = I.whole;
+      drawn = I.drawn;
+      stands = stands_turn _ c.requires.row_ready.proper _ _ c.requires.row_ready.few _ _ _ _ _ I.drawn _ _ _ I.stands _ I.whole c.pass-p.ensures.work_done.is_so (not_no _ c.if-not-p.false);
+      known = rw I.stands.tracks.sums.counts at c.pass-p.ensures.known_2;
+    }

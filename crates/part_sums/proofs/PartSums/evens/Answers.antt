@@ -4,4 +4,4 @@ use Rattle.part_sums.proofs.PartSums.evens.Goals as goal
 
 pub returns : goal.returns
 unfolding sums_even
-returns c = rw (c.sum_at.ensures.is, c.sum_at-old.ensures.is)
+returns c = rw (c.from.ensures, c.from-2.ensures, c.from-3.ensures)

@@ -1,0 +1,41 @@
+// The rungs that are refined, and the row of one of them.
+
+ghost use Rattle.std.specs.Prelude.{suc, ◌*◌, ◌<◌, ◌≤◌, length};
+ghost use Rattle.graph.specs.Graph.{joining};
+ghost use Rattle.graph.specs.Rows.{clusters, rows_in};
+ghost use Rattle.graph.specs.Links.{Linked, leave};
+ghost use Rattle.graph.specs.Coarse.{Coarse, Stored};
+ghost use Rattle.graph.specs.Lent.{graph_in};
+
+use graph::{LinkTable, Lists};
+
+// The rows from a rung down with what is stored of each, and the bound of a part.
+#[derive(Clone, Copy)]
+pub struct Ladder<'a> {
+    pub lists: Lists<'a>,
+    pub bound: u32,
+    pub rows: &'a [u16],
+    pub froms: &'a [u16],
+    pub tos: &'a [u16],
+    pub wides: &'a [u32],
+    pub sizes: &'a [u16; 9],
+    pub rung: usize,
+    ghost stored: { Stored (graph_in lists) (rows_in rows.now (length lists.costs.now)) rung (length lists.starts.now) froms.now tos.now wides.now sizes.now },
+    ghost held: { (suc rung * length lists.costs.now ≤ length rows.now) × (rung < 9) },
+}
+
+// One row: each vertex's cluster, the joined edges with their widths, and the links of those that leave each cluster. The graph's own edges are lent
+// for the contracts alone.
+// stays: that a table is good on the row and that the sums are its own are clauses (`RowReady`, `Tracks`): the table is written and the sums are handed on.
+#[derive(Clone, Copy)]
+pub struct JoinedRow<'a> {
+    pub lists: Lists<'a>,
+    pub bound: u32,
+    pub row: &'a [u16],
+    pub from: &'a [u16],
+    pub to: &'a [u16],
+    pub widths: &'a [u32],
+    pub links: &'a LinkTable,
+    ghost coarse: { Coarse (graph_in lists) row.now (clusters row.now) from.now to.now widths.now },
+    ghost linked: { Linked (leave (joining from.now to.now)) (length from.now) links.now.head links.now.next },
+}
