@@ -22,12 +22,11 @@ use Rattle.graph.proofs.Rows.{few_clusters}
 use Rattle.topology.specs.Order.{order_of}
 use Rattle.topology.proofs.Orders.{order_all, place_in_at, order_rises}
 use Rattle.topology.proofs.Sorted.{order_sorted}
-use Rattle.validity.specs.Cause.{Answer, refusal, answered, if_passed}
+use Rattle.validity.specs.Cause.{Answer, refusal, answered, if_passed, Passed}
 use Rattle.validity.specs.Check.{most_vertices, Valid}
 use Rattle.validity.specs.Drawn.{drawn_of}
 use Rattle.validity.specs.Sound.{Sound}
 use Rattle.validity.specs.declared.Cause.TheVariants.{Uncut}
-use Rattle.validity.specs.declared.Verdict.TheVariants.{Passed}
 use Rattle.validity.proofs.Passed.{valid_sound, valid_most, number_passed, passed_valid, passed_few}
 use Rattle.inspection.specs.Table.{Fine}
 use Rattle.inspection.specs.Inspect.{inspect_of, order_after}

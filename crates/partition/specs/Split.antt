@@ -1,15 +1,13 @@
 -- The public split: its answer, and what it leaves of the tables it is lent.
-use Rattle.std.specs.Prelude.{ℕ, ◌*◌, Bool, ◌&&◌, List, [], ◌∷◌, leb, length}
+use Rattle.std.specs.Prelude.{ℕ, ◌*◌, Result as OkOr, Bool, ◌&&◌, List, [], ◌∷◌, leb, length}
 use Rattle.folds.specs.Fold.{over}
 use Rattle.graph.specs.Graph.{Graph, vertices, cut_of}
-use Rattle.validity.specs.Cause.{Answer, refusal, answered, if_passed}
+use Rattle.validity.specs.Cause.{Answer, Verdict, refusal, answered, if_answered, if_passed}
 use Rattle.validity.specs.Check.{checked}
 use Rattle.validity.specs.declared.Cause.TheVariants.{Uncut}
-use Rattle.validity.specs.declared.Verdict.{Verdict}
+use Rattle.validity.specs.declared.Refusal.{Refusal}
 use Rattle.hierarchy.specs.Rounds.{kept_of, rows_after}
 use Rattle.partition.specs.Phases.{Result, nothing, parted, result_of}
-use Rattle.partition.specs.declared.Partitioned.{Partitioned}
-use Rattle.partition.specs.declared.Partitioned.TheVariants.{Parted, Failed}
 use Rattle.refinement.specs.Pass.{Tally}
 use Rattle.partition.specs.declared.Summary.{Summary}
 
@@ -18,9 +16,8 @@ abbrev pub figures : Summary → List ℕ
 figures s = s.cut ∷ s.rounds ∷ s.rung ∷ s.moves ∷ []
 
 -- the number and the values of each answer
-abbrev pub answer_of : Partitioned → Answer
-answer_of (Parted s) = answered (figures s)
-answer_of (Failed cause place) = refusal cause place
+abbrev pub answer_of : OkOr Summary Refusal → Answer
+answer_of r = if_answered r (λ s. answered (figures s)) refusal
 
 -- check 4: stage table under n, ladder under 9 × n
 unfoldable pub room_for : ℕ → List ℕ → List ℕ → Bool
