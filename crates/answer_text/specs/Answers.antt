@@ -1,15 +1,10 @@
 -- The lines of the answers, and what writing them into a borrowed buffer does.
-use Rattle.std.specs.Prelude.{ℕ, suc, ◌+◌, ◌<◌, ◌≡◌, List, [], ◌∷◌, ◌++◌, ltb, length}
+use Rattle.std.specs.Prelude.{Option, Some, None, ℕ, suc, ◌+◌, ◌<◌, ◌≡◌, List, [], ◌∷◌, ◌++◌, ltb, length}
 use Rattle.folds.specs.Fold.{pick, over}
 use Rattle.line_forms.specs.Form.{Form, printed, printed_all}
 use Rattle.answer_text.specs.Forms.{split_form, entry_form, block_word, start_word, inspected_form, refused_form}
-use Rattle.validity.specs.Cause.{Answer, refusal, told}
+use Rattle.validity.specs.Cause.{Answer, refusal, told, Passed}
 use Rattle.validity.specs.declared.Cause.TheVariants as cause
-use Rattle.validity.specs.declared.Verdict.TheVariants.{Passed}
-use Rattle.answer_text.specs.declared.Written.{Written}
-use Rattle.answer_text.specs.declared.Written.TheVariants.{Bytes, Short}
-use Rattle.answer_text.specs.declared.Room.{Room}
-use Rattle.answer_text.specs.declared.Room.TheVariants.{Left, Over}
 
 -- the entries of a table, each under its number, from n on
 unfoldable pub enumerated : ℕ → List ℕ → List (List ℕ)
@@ -40,12 +35,12 @@ writing text buf = pick (ltb (length buf) (length text)) (refusal cause.Room 0) 
 unfoldable pub written : List ℕ → List ℕ → List ℕ
 written text buf = pick (ltb (length buf) (length text)) buf (over text buf)
 
--- document 01's number and values of each case
-abbrev pub outcome : Written → Answer
-outcome (Bytes n) = told Passed (n ∷ [])
-outcome Short = refusal cause.Room 0
+-- document 01's number and values: the bytes written, or no room
+abbrev pub outcome : Option ℕ → Answer
+outcome (Some n) = told Passed (n ∷ [])
+outcome None = refusal cause.Room 0
 
 -- whether lines that take `need` bytes fit, and what they leave
-abbrev pub RoomIs : ℕ → ℕ → Room → Type 0
-RoomIs size need (Left left) = size ≡ left + need
-RoomIs size need Over = size < need
+abbrev pub RoomIs : ℕ → ℕ → Option ℕ → Type 0
+RoomIs size need (Some left) = size ≡ left + need
+RoomIs size need None = size < need

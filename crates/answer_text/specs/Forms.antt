@@ -1,7 +1,11 @@
 -- The forms of the lines of the answers (document 01, "Kit text").
 use Rattle.std.specs.Prelude.{ℕ, List, [], ◌∷◌}
 use Rattle.decimal.specs.Decimal.{bytes}
-use Rattle.line_forms.specs.Form.{Form, form, field}
+use Rattle.line_forms.specs.Form.{Field, Form, form, field}
+
+-- a line of some fields, closed as every line is
+abbrev pub headed : List Field → Form
+headed fs = form fs (bytes "))")
 
 -- the head of a split's lines, as `(split (cut 1) (rungs 1) (cutat 1) (moves 0))`
 abbrev pub split_form : Form

@@ -1,16 +1,16 @@
 -- What the text of a stage table says: a split line, then the block lines in order.
-use Rattle.std.specs.Prelude.{ℕ, zero, suc, ◌+◌, ◌≤◌, ◌≡◌, Bool, true, ◌&&◌, List, [], ◌∷◌, ◌++◌, ltb, length}
+use Rattle.std.specs.Prelude.{Result, Ok, Err, ℕ, zero, suc, ◌+◌, ◌≤◌, ◌≡◌, Bool, true, ◌&&◌, List, [], ◌∷◌, ◌++◌, ltb, length}
 use Rattle.std.proofs.Math.Option.{some, none}
 use Rattle.folds.specs.Fold.{pick, over}
 use Rattle.line_forms.specs.Form.{fits, as_form}
 use Rattle.line_forms.specs.Lines.{lines_of, leading, in_order, column}
 use Rattle.answer_text.specs.Forms.{split_form, entry_form, block_word}
 use Rattle.line_forms.specs.Stand.{Low, line_at, said, is_of}
-use Rattle.validity.specs.Cause.{Answer, refusal, told}
+use Rattle.validity.specs.Cause.{Answer, refusal, told, Passed}
 use Rattle.validity.specs.declared.Cause.TheVariants.{Room, Line}
-use Rattle.validity.specs.declared.Verdict.TheVariants.{Passed}
-use Rattle.answer_text.specs.declared.tables.Table.{Table}
-use Rattle.answer_text.specs.declared.tables.Table.TheVariants.{Entries, BadLine, Short}
+use Rattle.answer_text.specs.declared.tables.SavedTable.{SavedTable}
+use Rattle.answer_text.specs.declared.tables.TableError.{TableError}
+use Rattle.answer_text.specs.declared.tables.TableError.TheVariants.{BadLine, Short}
 
 -- the figures of the split line and the entries; or the line, from 1, that is not of the form
 pub data Saved : Type 0 where
@@ -38,10 +38,10 @@ table_answer (bad_line p) room = refusal Line p
 table_answer (saved head entries) room = pick (ltb room (length entries)) (refusal Room 0) (told Passed (head ++ (length entries ∷ [])))
 
 -- document 01's number and values of each case
-abbrev pub answer_of : Table → Answer
-answer_of (Entries cut rungs cutat moves entries) = told Passed (cut ∷ rungs ∷ cutat ∷ moves ∷ entries ∷ [])
-answer_of (BadLine line) = refusal Line line
-answer_of Short = refusal Room 0
+abbrev pub answer_of : Result SavedTable TableError → Answer
+answer_of (Ok t) = told Passed (t.cut ∷ t.rungs ∷ t.cutat ∷ t.moves ∷ t.entries ∷ [])
+answer_of (Err (BadLine line)) = refusal Line line
+answer_of (Err Short) = refusal Room 0
 
 -- the list afterwards: with the entries over its front, or as it was
 unfoldable pub table_written : Saved → List ℕ → List ℕ

@@ -1,60 +1,89 @@
 #![tactic(auto)]
 
-ghost use Rattle.std.specs.Prelude.{◌≡◌, ◌+◌, ◌<◌, ◌≤◌, [], ◌∷◌, ltb, length};
-ghost use Rattle.line_forms.specs.Form.{printed, printed_all, needs, needs_all};
+ghost use Rattle.std.specs.Prelude.{◌≡◌, ◌+◌, ◌^◌, ◌<◌, ◌≤◌, [], ◌∷◌, ltb, length};
+ghost use Rattle.decimal.specs.Decimal.{bytes};
 ghost use Rattle.decimal.specs.Write.{Puts};
-ghost use Rattle.answer_text.specs.Forms.{split_form, entry_form, inspected_form, refused_form};
-ghost use Rattle.answer_text.specs.Answers.{enumerated, split_text, order_text, refusal_text, writing, written, outcome, RoomIs};
+ghost use Rattle.line_forms.specs.Form.{form, printed, printed_all, needs, needs_all};
+ghost use Rattle.line_forms.specs.Lent.{fields_in};
+ghost use Rattle.answer_text.specs.Forms.{split_form, entry_form, inspected_form, refused_form, headed};
+ghost use Rattle.answer_text.specs.Answers.{enumerated, table_text, split_text, order_text, refusal_text, writing, written, outcome, RoomIs};
+
+use decimal::Field;
 
 pub mod tables;
 
-// The writer of answers: lines into a buffer that the caller lends, or nothing where it is too short.
+// The writer of answers: lines into a buffer that the caller lends, or nothing where it is too short. What it answers is the
+// number of bytes written; `None` is document 01's refusal 4 at place 0.
 
-// The bytes written, or document 01's refusal 4 at place 0.
-#[derive(Clone, Copy)]
-pub enum Written {
-    Bytes(usize),
-    Short,
+// The words of each line with what may stand after them; the end is the same of all.
+fn split_fields() -> [Field<'static>; 4]
+    ensures { fields_in result ≡ split_form.fields }
+{
+    [
+        Field::new(b"(split (cut ", 99_999_999),
+        Field::new(b") (rungs ", 99_999_999),
+        Field::new(b") (cutat ", 99_999_999),
+        Field::new(b") (moves ", 99_999_999),
+    ]
 }
 
-// What lines leave of a buffer.
-#[derive(Clone, Copy)]
-pub enum Room {
-    Left(usize),
-    Over,
+fn entry_fields<'a>(word: &'a [u8]) -> [Field<'a>; 2]
+    ensures { fields_in result ≡ (entry_form word.entry.now).fields }
+{
+    [Field::new(word, 65535), Field::new(b" (stage ", 65535)]
 }
 
+fn order_fields() -> [Field<'static>; 1]
+    ensures { fields_in result ≡ inspected_form.fields }
+{
+    [Field::new(b"(inspected (cut ", 99_999_999)]
+}
+
+fn refusal_fields() -> [Field<'static>; 2]
+    ensures { fields_in result ≡ refused_form.fields }
+{
+    [
+        Field::new(b"(refused (number ", 65535),
+        Field::new(b") (place ", 65535),
+    ]
+}
+
+// How many bytes the line of an entry takes.
 fn entry_length(word: &[u8], n: usize, entry: u16) -> usize
     requires { length word.now ≤ 16 }
     ensures { result ≡ needs (entry_form word.now) (n ∷ entry ∷ []) }
 {
-    let w = decimal::width(n);
-    let v = decimal::width(folds::wide(entry));
-    word.len() + w + 8 + v + 3
+    line_forms::needs(&entry_fields(word), &[n, usize::from(entry)], b"))\n")
 }
 
-fn entries_room(size: usize, word: &[u8], entries: &[u16]) -> Room
+// What the lines of a table's entries leave of so many bytes, if they fit.
+fn entries_room(size: usize, word: &[u8], entries: &[u16]) -> Option<usize>
     requires { length word.now ≤ 16 }
     ensures { RoomIs size (needs_all (entry_form word.now) (enumerated 0 entries.now)) result }
 {
     let mut left = size;
-    let mut n: usize = 0;
-    while n < entries.len() {
-        let need = entry_length(word, n, entries[n]);
+    for (n, entry) in entries.iter().enumerate() {
+        let need = entry_length(word, n, *entry);
         if left < need {
-            return Room::Over;
+            return None;
         }
-        left = left - need;
-        n += 1;
+        left -= need;
     }
-    Room::Left(left)
+    Some(left)
 }
 
+// stays: the place goes beside the buffer, as in `decimal::show`.
 fn put_entry(buf: &mut [u8], at: usize, word: &[u8], n: usize, entry: u16) -> usize
     requires { at + length (printed (entry_form word.now) (n ∷ entry ∷ [])) ≤ length buf.old }
     ensures { Puts buf.old at (printed (entry_form word.now) (n ∷ entry ∷ [])) buf.new result }
 {
-    line_forms::put_two(buf, at, word, n, b" (stage ", folds::wide(entry), b"))\n")
+    line_forms::put(
+        buf,
+        at,
+        &entry_fields(word),
+        &[n, usize::from(entry)],
+        b"))\n",
+    )
 }
 
 fn put_entries(buf: &mut [u8], at: usize, word: &[u8], entries: &[u16]) -> usize
@@ -62,10 +91,8 @@ fn put_entries(buf: &mut [u8], at: usize, word: &[u8], entries: &[u16]) -> usize
     ensures { Puts buf.old at (printed_all (entry_form word.now) (enumerated 0 entries.now)) buf.new result }
 {
     let mut i = at;
-    let mut n: usize = 0;
-    while n < entries.len() {
-        i = put_entry(buf, i, word, n, entries[n]);
-        n += 1;
+    for (n, entry) in entries.iter().enumerate() {
+        i = put_entry(buf, i, word, n, *entry);
     }
     i
 }
@@ -78,39 +105,28 @@ fn table_over(size: usize, head: usize, word: &[u8], entries: &[u16]) -> bool
     if size < head {
         return true;
     }
-    match entries_room(size - head, word, entries) {
-        Room::Left(_) => false,
-        Room::Over => true,
+    entries_room(size - head, word, entries).is_none()
+}
+
+// A head line of some figures, and a line for each entry.
+fn write_table(
+    buf: &mut [u8],
+    fields: &[Field<'_>],
+    figures: &[usize],
+    word: &[u8],
+    entries: &[u16],
+) -> Option<usize>
+    requires short { length word.now ≤ 16 }
+    requires few { needs (headed (fields_in fields.now)) figures.now < 2 ^ 64 }
+    ensures result_value { outcome result ≡ writing (table_text (headed (fields_in fields.now)) figures.now word.now entries.now) buf.old }
+    ensures buf_after { buf.new ≡ written (table_text (headed (fields_in fields.now)) figures.now word.now entries.now) buf.old }
+{
+    let head = line_forms::needs(fields, figures, b"))\n");
+    if table_over(buf.len(), head, word, entries) {
+        return None;
     }
-}
-
-fn split_length(cut: usize, rungs: usize, cutat: usize, moves: usize) -> usize
-    ensures { result ≡ needs split_form (cut ∷ rungs ∷ cutat ∷ moves ∷ []) }
-{
-    let a = decimal::width(cut);
-    let b = decimal::width(rungs);
-    let c = decimal::width(cutat);
-    let d = decimal::width(moves);
-    12 + a + 9 + b + 9 + c + 9 + d + 3
-}
-
-fn put_split(buf: &mut [u8], cut: usize, rungs: usize, cutat: usize, moves: usize) -> usize
-    requires { length (printed split_form (cut ∷ rungs ∷ cutat ∷ moves ∷ [])) ≤ length buf.old }
-    ensures { Puts buf.old 0 (printed split_form (cut ∷ rungs ∷ cutat ∷ moves ∷ [])) buf.new result }
-{
-    line_forms::put_four(
-        buf,
-        0,
-        b"(split (cut ",
-        cut,
-        b") (rungs ",
-        rungs,
-        b") (cutat ",
-        cutat,
-        b") (moves ",
-        moves,
-        b"))\n",
-    )
+    let i = line_forms::put(buf, 0, fields, figures, b"))\n");
+    Some(put_entries(buf, i, word, entries))
 }
 
 // The lines that the splitting program prints.
@@ -121,74 +137,38 @@ pub fn write_split(
     cutat: usize,
     moves: usize,
     parts: &[u16],
-) -> Written
+) -> Option<usize>
     ensures result_value { outcome result ≡ writing (split_text cut rungs cutat moves parts.now) buf.old }
     ensures buf_after { buf.new ≡ written (split_text cut rungs cutat moves parts.now) buf.old }
 {
-    let head = split_length(cut, rungs, cutat, moves);
-    if table_over(buf.len(), head, b"(block ", parts) {
-        return Written::Short;
-    }
-    let i = put_split(buf, cut, rungs, cutat, moves);
-    Written::Bytes(put_entries(buf, i, b"(block ", parts))
-}
-
-fn order_length(cut: usize) -> usize
-    ensures { result ≡ needs inspected_form (cut ∷ []) }
-{
-    16 + decimal::width(cut) + 3
-}
-
-fn put_inspected(buf: &mut [u8], cut: usize) -> usize
-    requires { length (printed inspected_form (cut ∷ [])) ≤ length buf.old }
-    ensures { Puts buf.old 0 (printed inspected_form (cut ∷ [])) buf.new result }
-{
-    line_forms::put_one(buf, 0, b"(inspected (cut ", cut, b"))\n")
-}
-
-// The lines of a start order that inspection gives.
-pub fn write_order(buf: &mut [u8], cut: usize, order: &[u16]) -> Written
-    ensures result_value { outcome result ≡ writing (order_text cut order.now) buf.old }
-    ensures buf_after { buf.new ≡ written (order_text cut order.now) buf.old }
-{
-    let head = order_length(cut);
-    if table_over(buf.len(), head, b"(start ", order) {
-        return Written::Short;
-    }
-    let i = put_inspected(buf, cut);
-    Written::Bytes(put_entries(buf, i, b"(start ", order))
-}
-
-fn refusal_length(number: usize, place: usize) -> usize
-    ensures { result ≡ needs refused_form (number ∷ place ∷ []) }
-{
-    let a = decimal::width(number);
-    let b = decimal::width(place);
-    17 + a + 9 + b + 3
-}
-
-fn put_refusal(buf: &mut [u8], number: usize, place: usize) -> usize
-    requires { length (printed refused_form (number ∷ place ∷ [])) ≤ length buf.old }
-    ensures { Puts buf.old 0 (printed refused_form (number ∷ place ∷ [])) buf.new result }
-{
-    line_forms::put_two(
+    write_table(
         buf,
-        0,
-        b"(refused (number ",
-        number,
-        b") (place ",
-        place,
-        b"))\n",
+        &split_fields(),
+        &[cut, rungs, cutat, moves],
+        b"(block ",
+        parts,
     )
 }
 
+// The lines of a start order that inspection gives.
+pub fn write_order(buf: &mut [u8], cut: usize, order: &[u16]) -> Option<usize>
+    ensures result_value { outcome result ≡ writing (order_text cut order.now) buf.old }
+    ensures buf_after { buf.new ≡ written (order_text cut order.now) buf.old }
+{
+    write_table(buf, &order_fields(), &[cut], b"(start ", order)
+}
+
 // The refusal line.
-pub fn write_refusal(buf: &mut [u8], number: usize, place: usize) -> Written
+// stays: a number: a `Cause` would ask more of callers, who may hand on any.
+pub fn write_refusal(buf: &mut [u8], number: usize, place: usize) -> Option<usize>
     ensures result_value { outcome result ≡ writing (refusal_text number place) buf.old }
     ensures buf_after { buf.new ≡ written (refusal_text number place) buf.old }
 {
-    if buf.len() < refusal_length(number, place) {
-        return Written::Short;
+    let fields = refusal_fields();
+    let figures = [number, place];
+    let need = line_forms::needs(&fields, &figures, b"))\n");
+    if buf.len() < need {
+        return None;
     }
-    Written::Bytes(put_refusal(buf, number, place))
+    Some(line_forms::put(buf, 0, &fields, &figures, b"))\n"))
 }

@@ -1,35 +1,68 @@
 -- The readers from what the code's branches say, at the code's places.
-use Prim.Native.Nat.{ℕ, ◌+◌, ◌-◌, ◌*◌, ◌≤◌, ◌<◌}
-use mathlib.Core.Path.{◌≡◌, sym, ◌∙◌}
-use mathlib.Core.Bool.{Bool, true, false}
-use mathlib.Core.List.{List, []}
-use lib.ListN.{length, get_or, drop, drop_of_length-le}
-use borrow.Author.Tests.{eq-eqb, ne_eqb, lt-ltb, le-ltb}
+use Prim.Native.Nat.{ℕ, min, ◌+◌, ◌-◌, ◌*◌, ◌≤◌, ◌<◌}
+use mathlib.Core.Path.{◌≡◌, sym, ap, ◌∙◌}
+use mathlib.Core.Bool.{Bool, true, false, ◌&&◌}
+use mathlib.Core.List.{List, [], ◌∷◌}
+use lib.ListN.{length, get_or, drop, take, drop_of_length-le}
+use borrow.Author.Tests.{eq-eqb, ne_eqb, lt-ltb, le-ltb, ltb-true, ltb-false, eqb-true, eqb-false}
+use mathlib.Core.Logic.{⊎_elim, ◌⊎◌}
+use Rattle.std.proofs.Common.{rules, arith}
+use Rattle.std.specs.Char.{is_ascii_digit}
+use Rattle.std.specs.List.{starts_with}
+use Rattle.std.proofs.lemmas.List.{take_rest}
+use Rattle.folds.proofs.Cases.{by}
+use lib.Dec.{eqb, ltb}
+use mathlib.Core.Path.{refl}
 use Rattle.folds.specs.Fold.{pick}
 use Rattle.folds.proofs.Lists.{left_cons}
-use Rattle.decimal.specs.Read.{more_of, number_of, starts_of}
-use Rattle.decimal.specs.declared.Number.{Number}
-use Rattle.decimal.specs.declared.Number.TheVariants.{Is, Not}
+use Rattle.decimal.specs.Read.{Number, Is, Not, more_of, number_of, starts_of}
 use Rattle.decimal.proofs.Text.{starts_within}
 
 pub left_none : (t : List ℕ) (i : ℕ) → length t ≤ i → drop i t ≡ []
 left_none t i h = drop_of_length-le t h
 
+-- the slice's own test of a word
+starts_same : (p s : List ℕ) → starts_with eqb s p ≡ starts_of p s
+unfolding starts_of
+starts_same [] s = refl
+starts_same (a ∷ p) [] = refl
+starts_same (a ∷ p) (b ∷ s) = go (eqb a b) (eqb b a) refl refl (starts_same p s)
+  where
+    go : (x y : Bool) → eqb a b ≡ x → eqb b a ≡ y → starts_with eqb s p ≡ starts_of p s → x && starts_with eqb s p ≡ pick y (starts_of p s) false
+    go true true e f ih = ih
+    go true false e f ih = absurd (eqb-false b a f (sym (eqb-true a b e)))
+    go false true e f ih = absurd (eqb-false a b e (sym (eqb-true b a f)))
+    go false false e f ih = refl
+
+left_same : (t : List ℕ) (i m : ℕ) → m ≡ min i (length t) → drop m t ≡ drop i t
+left_same t i m e =
+    by (ltb i (length t)) (λ h. let l = ltb-true _ _ h in let q : m ≡ i = omega arith in rw q)
+    (λ h. let l = ltb-false _ _ h in left_none t m (omega arith) ∙ sym (left_none t i l))
+
+pub starts_left : (t p : List ℕ) (i m : ℕ) (r : Bool) → m ≡ min i (length t) → r ≡ starts_with eqb (take (length t - m) (drop m t)) p → r ≡ starts_of p (drop i t)
+starts_left t p i m r e h = h ∙ (ap (λ (s : List ℕ). starts_with eqb s p) (take_rest t m ∙ left_same t i m e) ∙ starts_same p (drop i t))
+
+-- the two sides of std's test of a digit
+pub digit_within : (b : ℕ) (r : Bool) → r ≡ is_ascii_digit b → r ≡ true → (48 ≤ b) × (b ≤ 57)
+digit_within b r e h = search (rules, arith)
+
+pub digit_outside : (b : ℕ) (r : Bool) → r ≡ is_ascii_digit b → r ≡ false → (b < 48) ⊎ (57 < b)
+digit_outside b r e h = search (rules, arith)
+
 module _ (most v i : ℕ) (t : List ℕ) (r : Number) (e : more_of most v i (drop i t) ≡ r) where
-  pub more_end : length t ≤ i → Is v i ≡ r
+  pub more_end : i ≡ length t → Is v (length t) ≡ r
   unfolding more_of
-  more_end h = rw (left_none t i h) at e
+  more_end h = rw (left_none t i (omega arith), h) at e
 
   module _ (h : i < length t) where
-    pub more_low : get_or t i 0 < 48 → Is v i ≡ r
+    pub more_stop : (d : Bool) → d ≡ is_ascii_digit (get_or t i 0) → d ≡ false → Is v i ≡ r
     unfolding more_of
-    more_low l = rw (left_cons t i 0 h, lt-ltb _ _ l) at e
+    more_stop d w n =
+        ⊎_elim (λ (l : get_or t i 0 < 48). rw (left_cons t i 0 h, lt-ltb _ _ l) at e)
+        (λ (l : 57 < get_or t i 0). let g : 48 ≤ get_or t i 0 = omega arith in rw (left_cons t i 0 h, le-ltb _ _ g, lt-ltb _ _ l) at e)
+        (digit_outside _ d w n)
 
     module _ (g : 48 ≤ get_or t i 0) where
-      pub more_high : 57 < get_or t i 0 → Is v i ≡ r
-      unfolding more_of
-      more_high l = rw (left_cons t i 0 h, le-ltb _ _ g, lt-ltb _ _ l) at e
-
       module _ (f : get_or t i 0 ≤ 57) where
         pub more_zero : v ≡ 0 → Not ≡ r
         unfolding more_of
@@ -50,24 +83,21 @@ module _ (most i : ℕ) (t : List ℕ) where
   number_end h = rw (left_none t i h)
 
   module _ (h : i < length t) where
-    pub number_low : get_or t i 0 < 48 → Not ≡ number_of most i (drop i t)
+    pub number_none : (b : ℕ) (d : Bool) → b ≡ get_or t i b → d ≡ is_ascii_digit b → d ≡ false → Not ≡ number_of most i (drop i t)
     unfolding number_of
-    number_low l = rw (left_cons t i 0 h, lt-ltb _ _ l)
+    number_none b d q w n =
+        ⊎_elim (λ (l : b < 48). rw (left_cons t i b h, sym q, lt-ltb _ _ l))
+        (λ (l : 57 < b). let g : 48 ≤ b = omega arith in rw (left_cons t i b h, sym q, le-ltb _ _ g, lt-ltb _ _ l))
+        (digit_outside _ d w n)
 
-    pub number_high : 48 ≤ get_or t i 0 → 57 < get_or t i 0 → Not ≡ number_of most i (drop i t)
+    pub number_on : (b x : ℕ) (d : Bool) → b ≡ get_or t i b → d ≡ is_ascii_digit b → d ≡ true → x ≡ b - 48 → (r : Number) → r ≡ more_of most x (i + 1) (drop (i + 1) t) → r ≡ number_of most i (drop i t)
     unfolding number_of
-    number_high g l = rw (left_cons t i 0 h, le-ltb _ _ g, lt-ltb _ _ l)
-
-    pub number_on : 48 ≤ get_or t i 0 → get_or t i 0 ≤ 57 → (x : ℕ) → x ≡ get_or t i 0 - 48 → (r : Number) → r ≡ more_of most x (i + 1) (drop (i + 1) t) → r ≡ number_of most i (drop i t)
-    unfolding number_of
-    number_on g l x q r e = rw (left_cons t i 0 h, le-ltb _ _ g, le-ltb _ _ l, ← q) e
+    number_on b x d p w n q r e =
+        let g = digit_within b d w n in
+        rw (left_cons t i b h, sym p, le-ltb _ _ g.0, le-ltb _ _ g.1, ← q) e
 
 -- p from k on, and t from i on
 module _ (p t : List ℕ) (k i : ℕ) (r : Bool) (e : starts_of (drop k p) (drop i t) ≡ r) where
-  pub starts_all : length p ≤ k → true ≡ r
-  unfolding starts_of
-  starts_all h = rw (left_none p k h) at e
-
   module _ (h : k < length p) where
     pub starts_short : length t ≤ i → false ≡ r
     unfolding starts_of

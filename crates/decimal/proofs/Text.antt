@@ -9,13 +9,12 @@ use native.Mathlib.Omega.{arith}
 use lib.Dec.{ltb, leb, eqb}
 use lib.ListN.{length, drop, length-append, length-drop}
 use lib.Seq.{append_snoc, drop-drop, drop_at}
-use borrow.Author.Tests.{eq-eqb, ne_eqb, lt-ltb, le-ltb, le-leb, lt-leb, ltb-true, ltb-false, leb-false, eqb-true, eqb-false}
+use borrow.Author.Tests.{eq-eqb, ne_eqb, lt-ltb, le-ltb, le-leb, ltb-true, ltb-false, leb-false, eqb-true, eqb-false}
 use Rattle.folds.specs.Fold.{pick}
 use Rattle.folds.proofs.Cases.{no_bool, by}
 use Rattle.folds.proofs.Cases.{chose}
 use Rattle.decimal.specs.Decimal.{digits, decimal, digit, numbers, numbers_in}
-use Rattle.decimal.specs.Read.{more_of, number_of, starts_of, field_of}
-use Rattle.decimal.specs.declared.Number.TheVariants.{Is, Not}
+use Rattle.decimal.specs.Read.{Is, Not, more_of, number_of, starts_of, field_of}
 
 -- ---------------------------------------------------------------- printing
 -- the fuel of the digits does not matter where it is enough
@@ -85,14 +84,6 @@ abbrev pub stops : List ℕ → Bool
 stops [] = true
 stops (b ∷ s) = not (digit b)
 
-stops_low : (b : ℕ) (s : List ℕ) → ltb b 48 ≡ true → stops (b ∷ s) ≡ true
-unfolding digit
-stops_low b s e = rw e
-
-stops_high : (b : ℕ) (s : List ℕ) → ltb 57 b ≡ true → stops (b ∷ s) ≡ true
-unfolding digit
-stops_high b s e = let h = ltb-true 57 b e in rw (le-ltb b 48 (omega arith), lt-leb b 57 h)
-
 not_digit : (b : ℕ) → not (digit b) ≡ true → digit b ≡ false
 not_digit b e = go (digit b) e
   where
@@ -151,8 +142,9 @@ record After (most v i : ℕ) (s : List ℕ) (w j : ℕ) : Type 0 where
 
 after_none : (most v i : ℕ) (s : List ℕ) (w j : ℕ) → v ≤ most → Is v i ≡ Is w j → After most v i s w j
 after_none most v i s w j h e =
-    let a : v ≡ w = cc in
-    let b : i ≡ j = cc in
+    let p : ◌≡◌ {A = ℕ × ℕ} (v, i) (w, j) = cc in
+    let a : v ≡ w = ap (λ (x : ℕ × ℕ). x.0) p in
+    let b : i ≡ j = ap (λ (x : ℕ × ℕ). x.1) p in
     record { width = 0; next = omega arith; is = rw a; low = omega arith }
 
 after_digit : (most v i b : ℕ) (s : List ℕ) (w j : ℕ) → 48 ≤ b → b ≤ 57 → (v ≡ 0 → ⊥) → After most (v * 10 + (b - 48)) (i + 1) s w j → After most v i (b ∷ s) w j

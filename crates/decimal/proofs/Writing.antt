@@ -1,14 +1,18 @@
 -- What is written digit by digit and word by word.
-use Prim.Native.Nat.{ℕ, ◌+◌, ◌/◌, ◌%◌, ◌^◌, ◌≤◌, ◌<◌}
-use mathlib.Core.Path.{◌≡◌, refl, sym, ap, ◌∙◌}
-use mathlib.Core.List.{List, [], ◌∷◌, ◌++◌, append_assoc}
+use Prim.Native.Nat.{ℕ, zero, suc, max, ◌+◌, ◌*◌, ◌/◌, ◌%◌, ◌^◌, ◌≤◌, ◌<◌}
+use mathlib.Core.Path.{◌≡◌, refl, ap, ◌∙◌}
+use mathlib.Core.List.{List, [], ◌∷◌, ◌++◌}
 use native.Mathlib.Omega.{arith}
-use lib.ListN.{length, set, take, length-append}
+use native.Mathlib.Nat.{pow-succ'}
+use lib.Dec.{ltb}
+use borrow.Author.Tests.{ltb-true, ltb-false}
+use Rattle.folds.proofs.Cases.{by}
+use lib.ListN.{length, set, length-append}
 use Rattle.folds.specs.Fold.{put}
 use Rattle.folds.proofs.Slices.{length-put}
-use Rattle.folds.proofs.Parts.{put_none, put_more, put-put, copy_end}
+use Rattle.folds.proofs.Parts.{put_none, put_more, put-put}
 use Rattle.decimal.specs.Decimal.{digits, decimal}
-use Rattle.decimal.specs.Write.{Puts, Width}
+use Rattle.decimal.specs.Write.{Puts}
 use Rattle.decimal.proofs.Text.{decimal_one, decimal_long, decimal_mono, length_one, length_long}
 
 -- a number of 64 bits has at most 20 digits
@@ -18,18 +22,22 @@ decimal_short v h = omega (arith, decimal_mono 18446744073709551615 v (omega ari
     most : length (decimal 18446744073709551615) ≡ 20
     most = unfold decimal digits in refl
 
--- counting digits: those counted, and those of what is left
-pub record Counting (v w n : ℕ) : Type 0 where
-  pub sum : n + length (decimal w) ≡ length (decimal v) + 1
-  pub low : w ≤ v
+pow_some : (k : ℕ) → 1 ≤ 10 ^ k
+pow_some zero = omega arith
+pow_some (suc k) = omega (arith, pow-succ' 10 k, pow_some k)
 
-pub counting_turn : {v w n : ℕ} → Counting v w n → 10 ≤ w → Counting v (w / 10) (n + 1)
-counting_turn {v} {w} {n} c h = record { sum = omega (arith, c.sum, length_long w h); low = omega (arith, c.low) }
+-- a number's digits by the power of ten below it
+decimal_log : (k v : ℕ) → 10 ^ k ≤ v → v < 10 * 10 ^ k → length (decimal v) ≡ k + 1
+decimal_log zero v h g = length_one v (omega arith)
+decimal_log (suc k) v h g =
+    let e : 10 ^ suc k ≡ 10 * 10 ^ k = omega (arith, pow-succ' 10 k) in
+    omega (arith, length_long v (omega (arith, e, pow_some k)), decimal_log k (v / 10) (omega (arith, e)) (omega (arith, e)))
 
-pub counting_end : {v w n : ℕ} → Counting v w n → w < 10 → v < 2 ^ 64 → Width v n
-counting_end {v} {w} {n} c h g =
-    let e : n ≡ length (decimal v) = omega (arith, c.sum, length_one w h) in
-    record { is = e; low = omega (arith, decimal_short v g) }
+-- and of 0 as of 1
+pub width_is : (v w k : ℕ) → w ≡ max v 1 → 10 ^ k ≤ w → w < 10 * 10 ^ k → length (decimal v) ≡ k + 1
+width_is v w k e h g =
+    by (ltb v 1) (λ q. omega (arith, length_one v (omega (arith, ltb-true v 1 q)), length_one w (omega (arith, ltb-true v 1 q)), decimal_log k w h g))
+    (λ q. let z : w ≡ v = omega (arith, ltb-false v 1 q) in rw z at (decimal_log k w h g))
 
 pub show_one : (l : List ℕ) (a v d : ℕ) → v < 10 → d ≡ 48 + v → a + length (decimal v) ≤ length l → Puts l a (decimal v) (set l a d) (a + 1)
 show_one l a v d h e r =
@@ -61,21 +69,3 @@ room_then {l} {l'} {p} {a} {i} q x h =
 
 pub room_first : (p q : List ℕ) (a n : ℕ) → a + length (p ++ q) ≤ n → a + length p ≤ n
 room_first p q a n h = omega (arith, length-append p q)
-
-pub copy_start : (l : List ℕ) (a : ℕ) → l ≡ put l a []
-copy_start l a = sym (put_none l a)
-
-pub copy_all : (l₀ l : List ℕ) (a k : ℕ) (s : List ℕ) → l ≡ put l₀ a (take k s) → k ≤ length s → length s ≤ k → Puts l₀ a s l (a + k)
-copy_all l₀ l a k s e g h = record { next = omega arith; is = copy_end l₀ l a k s e h }
-
--- a word p and a number's digits d, and what follows them
-module _ (p d q : List ℕ) where
-  pub room_of_field : (a n : ℕ) → a + length (p ++ (d ++ q)) ≤ n → a + length (p ++ d) ≤ n
-  room_of_field a n h = room_first (p ++ d) q a n (rw append_assoc h)
-
-  module _ {l l' : List ℕ} {a i : ℕ} (x : Puts l a (p ++ d) l' i) (h : a + length (p ++ (d ++ q)) ≤ length l) where
-    pub room_field : i + length q ≤ length l'
-    room_field = room_then q x (rw append_assoc h)
-
-    pub field_then : {l'' : List ℕ} {j : ℕ} → Puts l' i q l'' j → Puts l a (p ++ (d ++ q)) l'' j
-    field_then y = rw append_assoc at (puts_then x y (rw append_assoc h))

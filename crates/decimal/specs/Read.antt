@@ -1,8 +1,16 @@
 -- How the readers go along a text. What they find is tied to what is printed by the laws in proofs/Text.antt.
-use Rattle.std.specs.Prelude.{ℕ, ◌+◌, ◌-◌, ◌*◌, Bool, true, false, List, [], ◌∷◌, ltb, eqb, length, drop}
+use Rattle.std.specs.Prelude.{Option, Some, None, ℕ, ◌+◌, ◌-◌, ◌*◌, Bool, true, false, List, [], ◌∷◌, ltb, eqb, length, drop}
 use Rattle.folds.specs.Fold.{pick}
-use Rattle.decimal.specs.declared.Number.{Number}
-use Rattle.decimal.specs.declared.Number.TheVariants.{Is, Not}
+
+-- a number that was read, and the place past it; or no number
+abbrev pub Number : Type 0
+Number = Option (ℕ × ℕ)
+
+pattern abbrev pub Is : ℕ → ℕ → Number
+Is v j = Some (v, j)
+
+pattern abbrev pub Not : Number
+Not = None
 
 -- the digits of s, which follow those of v and begin at place i
 unfoldable pub more_of : ℕ → ℕ → ℕ → List ℕ → Number

@@ -7,116 +7,74 @@ ghost use Rattle.decimal.specs.Read.{more_of, number_of, starts_of, field_of};
 
 // Numbers in base ten, read from a text and written into a buffer.
 
-// A number that was read, with the place after it.
-#[derive(Clone, Copy)]
-pub enum Number {
-    Is(u32, usize),
-    Not,
-}
-
-fn wide(b: u8) -> u32
-    ensures { result ≡ b }
-{
-    b as u32
-}
+// A number that is read has the place after it beside it; where none stands, there is `None`.
 
 // The digits from a place on, after those of first.
-fn more(text: &[u8], from: usize, first: u32, most: u32) -> Number
+fn more(text: &[u8], from: usize, first: u32, most: u32) -> Option<(u32, usize)>
     requires { (from ≤ length text.now) × (first ≤ most) × (most < 100000000) }
     ensures { result ≡ more_of most first from (drop from text.now) }
 {
     let mut v = first;
-    let mut i = from;
-    while i < text.len() {
+    for i in from..text.len() {
         let b = text[i];
-        if b < 48 {
-            return Number::Is(v, i);
-        }
-        if b > 57 {
-            return Number::Is(v, i);
+        if !b.is_ascii_digit() {
+            return Some((v, i));
         }
         if v == 0 {
-            return Number::Not;
+            return None;
         }
-        let w = v * 10 + wide(b - 48);
+        let w = v * 10 + u32::from(b - b'0');
         if w > most {
-            return Number::Not;
+            return None;
         }
         v = w;
-        i += 1;
     }
-    Number::Is(v, i)
+    Some((v, text.len()))
 }
 
 // The number that stands at a place, if it is at most `most`.
-pub fn number_at(text: &[u8], at: usize, most: u32) -> Number
+pub fn number_at(text: &[u8], at: usize, most: u32) -> Option<(u32, usize)>
     requires { (9 ≤ most) × (most < 100000000) }
     ensures { result ≡ number_of most at (drop at text.now) }
 {
-    if at >= text.len() {
-        return Number::Not;
+    let b = *text.get(at)?;
+    if !b.is_ascii_digit() {
+        return None;
     }
-    let b = text[at];
-    if b < 48 {
-        return Number::Not;
-    }
-    if b > 57 {
-        return Number::Not;
-    }
-    more(text, at + 1, wide(b - 48), most)
+    more(text, at + 1, u32::from(b - b'0'), most)
 }
 
 // Whether a word stands at a place.
 pub fn starts(text: &[u8], at: usize, word: &[u8]) -> bool
     ensures { result ≡ starts_of word.now (drop at text.now) }
 {
-    let mut i = at;
-    let mut k: usize = 0;
-    while k < word.len() {
-        if i >= text.len() {
-            return false;
-        }
-        if text[i] != word[k] {
-            return false;
-        }
-        i += 1;
-        k += 1;
-    }
-    true
+    text[at.min(text.len())..].starts_with(word)
 }
 
-// A word and a number.
-pub fn field(text: &[u8], at: usize, word: &[u8], most: u32) -> Number
-    requires { (9 ≤ most) × (most < 100000000) }
-    ensures { result ≡ field_of word.now most text.now at }
-{
-    if !starts(text, at, word) {
-        return Number::Not;
-    }
-    number_at(text, at + word.len(), most)
+// A word, and the most that the number after it may be.
+#[derive(Clone, Copy)]
+pub struct Field<'a> {
+    pub word: &'a [u8],
+    pub most: u32,
+    ghost range: { (9 ≤ most) × (most < 100000000) },
 }
 
 fn digit_of(d: usize) -> u8
     requires { d < 10 }
     ensures { result ≡ 48 + d }
 {
-    48 + d as u8
+    b'0' + d as u8
 }
 
 // How many digits a number has.
 pub fn width(v: usize) -> usize
     ensures { Width v result }
 {
-    let mut w = v;
-    let mut n: usize = 1;
-    while w >= 10 {
-        w = w / 10;
-        n += 1;
-    }
-    n
+    v.max(1).ilog10() as usize + 1
 }
 
 // Writes a number in base ten at a place, and returns the place past it.
+// stays: the place goes beside the buffer, as beside the text in reading: with a type of both a clause would still name each, old and new.
 pub fn show(buf: &mut [u8], at: usize, v: usize) -> usize
     requires { at + length (decimal v) ≤ length buf.old }
     ensures { Puts buf.old at (decimal v) buf.new result }
@@ -135,19 +93,35 @@ pub fn copy(buf: &mut [u8], at: usize, word: &[u8]) -> usize
     requires { at + length word.now ≤ length buf.old }
     ensures { Puts buf.old at word.now buf.new result }
 {
-    let mut k: usize = 0;
-    while k < word.len() {
-        buf[at + k] = word[k];
-        k += 1;
-    }
-    at + k
+    let end = at + word.len();
+    buf[at..end].copy_from_slice(word);
+    end
 }
 
-// Writes a word and a number.
-pub fn put_field(buf: &mut [u8], at: usize, word: &[u8], v: usize) -> usize
-    requires { at + length (word.now ++ decimal v) ≤ length buf.old }
-    ensures { Puts buf.old at (word.now ++ decimal v) buf.new result }
-{
-    let i = copy(buf, at, word);
-    show(buf, i, v)
+impl<'a> Field<'a> {
+    pub fn new(word: &'a [u8], most: u32) -> Field<'a>
+        requires { (9 ≤ most) × (most < 100000000) }
+        ensures { (result.word ≡ word.entry) × (result.most ≡ most) }
+    {
+        Field { word, most }
+    }
+
+    // The word and a number, from a place on.
+    pub fn read(self, text: &[u8], at: usize) -> Option<(u32, usize)>
+        ensures { result ≡ field_of self.entry.word.now self.entry.most text.now at }
+    {
+        if !starts(text, at, self.word) {
+            return None;
+        }
+        number_at(text, at + self.word.len(), self.most)
+    }
+
+    // Writes the word and a number at a place, and returns the place past them.
+    pub fn put(self, buf: &mut [u8], at: usize, v: usize) -> usize
+        requires { at + length (self.word.now ++ decimal v) ≤ length buf.old }
+        ensures { Puts buf.old at (self.entry.word.now ++ decimal v) buf.new result }
+    {
+        let i = copy(buf, at, self.word);
+        show(buf, i, v)
+    }
 }

@@ -1,46 +1,22 @@
 -- The checks of the lines, from what the code's branches say.
 use Prim.Native.Nat.{ℕ, ◌+◌, ◌≤◌, ◌<◌}
-use mathlib.Core.Path.{◌≡◌, refl, sym, ap, ◌∙◌, subst}
+use mathlib.Core.Path.{◌≡◌, refl, sym, ap, ◌∙◌}
 use mathlib.Core.List.{List, [], ◌∷◌}
 use mathlib.Core.Option.{none}
 use native.Mathlib.Omega.{arith}
-use lib.ListN.{length, drop, length-drop}
+use lib.ListN.{length, get_or, drop, length-drop}
 use lib.Seq.{drop-drop}
 use borrow.Author.Tests.{lt-ltb, le-ltb, eq-eqb, ne_eqb}
 use Rattle.line_forms.specs.Form.{as_form}
-use Rattle.line_forms.specs.Lines.{lines_of, leading, of_form, Ran}
-use Rattle.line_forms.specs.Read.{read_form, as_three}
-use Rattle.line_forms.specs.declared.Triple.{Triple}
-use Rattle.line_forms.specs.declared.Triple.TheVariants.{Are, No}
-use Rattle.kit_lines.specs.Forms.{kit_form, block_form, wire_form}
-use Rattle.line_forms.proofs.Lines.{lines_none, lines_left, leading_some, left_start, left_turn, left_stop, left_full}
-use Rattle.line_forms.proofs.Steps.{told}
+use Rattle.line_forms.specs.Lines.{lines_of, leading, of_form}
+use Rattle.line_forms.specs.Read.{Got, got, nope, read_form}
+use Rattle.kit_lines.specs.Forms.{kit_form}
+use Rattle.line_forms.proofs.Lines.{lines_none, lines_left, leading_some}
 use Rattle.kit_lines.specs.Kit.{refused, kit_with, kit_after, kit_lines, block_rows, wire_rows}
-use Rattle.kit_lines.specs.Scan.{blocks_at, wires_at, of_letter, most_of, Passed, IsFine, Scanned}
-use Rattle.kit_lines.specs.declared.Layout.{Layout}
-use Rattle.validity.specs.declared.Cause.{Cause}
+use Rattle.kit_lines.specs.Scan.{blocks_at, wires_at, Passed, IsFine}
 use Rattle.validity.specs.declared.Cause.TheVariants.{Line, Lines}
-use Rattle.kit_lines.specs.declared.Scan.{Scan}
-use Rattle.kit_lines.specs.declared.Scan.TheVariants.{Fine, Refused}
 use Rattle.kit_lines.proofs.Accepted.{kit_some}
 use Rattle.kit_lines.proofs.Lines.{kit_reads}
-
--- ---------------------------------------------------------------- the kit line passed
-pub head_there : (t : List ℕ) (at : ℕ) {x : Triple} {b k l i : ℕ} → as_three x ≡ read_form kit_form t at → x ≡ Are b k l i → Ran (of_form kit_form) t 1 at 1 i
-head_there t at {x} {b} {k} {l} {i} e h = left_full (kit_reads t) (left_turn (kit_reads t) (left_start (kit_reads t) 1 at) (b ∷ k ∷ l ∷ []) i (omega arith) (told as_three e h)) (omega arith)
-
-pub head_none : (t : List ℕ) (at : ℕ) {x : Triple} → as_three x ≡ read_form kit_form t at → x ≡ No → Ran (of_form kit_form) t 1 at 0 at
-head_none t at e h = left_stop (kit_reads t) (left_start (kit_reads t) 1 at) (told as_three e h)
-
--- lines of the letter k, b or w
-pub of_kit : (letter : ℕ) {t : List ℕ} {at n i : ℕ} → letter ≡ 107 → Ran (of_form kit_form) t 1 at n i → Ran (of_letter letter) t (most_of letter) at n i
-of_kit letter e r = rw e r
-
-pub of_block : (letter : ℕ) {t : List ℕ} {at n i : ℕ} → letter ≡ 98 → Ran (of_form block_form) t 512 at n i → Ran (of_letter letter) t (most_of letter) at n i
-of_block letter e r = rw e r
-
-pub of_wire : (letter : ℕ) {t : List ℕ} {at n i : ℕ} → (letter ≡ 107 → ⊥) → (letter ≡ 98 → ⊥) → Ran (of_form wire_form) t 1024 at n i → Ran (of_letter letter) t (most_of letter) at n i
-of_wire letter a b r = rw (ne_eqb letter 107 a, ne_eqb letter 98 b) r
 
 -- ---------------------------------------------------------------- the checks
 -- the kit line was read, or not
@@ -49,31 +25,31 @@ unfolding kit_lines
 kit_none [] h = refl
 kit_none (l ∷ ls) h = rw (h l ls refl, kit_lines)
 
-pub no_kit_line : (t : List ℕ) {x : Triple} → as_three x ≡ read_form kit_form t 0 → x ≡ No → kit_lines (lines_of t) ≡ refused Line 1
-no_kit_line t e h = kit_none (lines_of t) ((kit_reads t).missed 0 0 (told as_three e h))
+pub no_kit_line : (t : List ℕ) {x : Got} → x ≡ read_form kit_form t 0 → x ≡ nope → kit_lines (lines_of t) ≡ refused Line 1
+no_kit_line t e h = kit_none (lines_of t) ((kit_reads t).missed 0 0 (sym e ∙ h))
 
 first_only : (ls : List (List ℕ)) (vs : List ℕ) → length (vs ∷ leading (of_form kit_form) 1 0 ls) ≡ 1
 unfolding leading
 first_only ls vs = refl
 
-module _ (t : List ℕ) {x : Triple} (b k l h : ℕ) (e : as_three x ≡ read_form kit_form t 0) (is : x ≡ Are b k l h) (i n j m p : ℕ) (r : Passed t i n j m p) where
+module _ (t : List ℕ) {x : Got} (vs : List ℕ) (h : ℕ) (e : x ≡ read_form kit_form t 0) (is : x ≡ got vs h) (i n j m p : ℕ) (r : Passed t i n j m p) where
   -- the reader has passed that kit line
   past_kit : lines_of (drop i t) ≡ lines_of (drop h t)
   past_kit =
-      let f = (kit_reads t).found 0 0 (b ∷ k ∷ l ∷ []) h (told as_three e is) in
-      let one : length (leading (of_form kit_form) 0 1 (lines_of t)) ≡ 1 = rw (f.1, leading_some (of_form kit_form) 0 0 f.0 (lines_of (drop h t)) (b ∷ k ∷ l ∷ []) f.2) (first_only (lines_of (drop h t)) (b ∷ k ∷ l ∷ [])) in
+      let f = (kit_reads t).found 0 0 vs h (sym e ∙ is) in
+      let one : length (leading (of_form kit_form) 0 1 (lines_of t)) ≡ 1 = rw (f.1, leading_some (of_form kit_form) 0 0 f.0 (lines_of (drop h t)) vs f.2) (first_only (lines_of (drop h t)) vs) in
       r.kit.lines ∙ rw (r.kit.count, one, f.1)
 
   past_all : lines_of (drop p t) ≡ drop (n + m) (lines_of (drop i t))
   past_all = r.wires.lines ∙ (ap (drop m) r.blocks.lines ∙ drop-drop m n (lines_of (drop i t)))
 
   -- the lines after the kit line, as the rows that were counted
-  kit_line_is : kit_lines (lines_of t) ≡ kit_with (b ∷ k ∷ l ∷ []) (blocks_at t i) (wires_at t j) (length (lines_of (drop i t)))
+  kit_line_is : kit_lines (lines_of t) ≡ kit_with vs (blocks_at t i) (wires_at t j) (length (lines_of (drop i t)))
   unfolding kit_after
   kit_line_is =
-      let f = (kit_reads t).found 0 0 (b ∷ k ∷ l ∷ []) h (told as_three e is) in
+      let f = (kit_reads t).found 0 0 vs h (sym e ∙ is) in
       let q : drop (length (blocks_at t i)) (lines_of (drop i t)) ≡ lines_of (drop j t) = unfold block_rows in rw (← r.blocks.count) (sym r.blocks.lines) in
-      ap kit_lines f.1 ∙ (kit_some f.0 (b ∷ k ∷ l ∷ []) _ f.2 ∙ rw (← past_kit, q))
+      ap kit_lines f.1 ∙ (kit_some f.0 vs _ f.2 ∙ rw (← past_kit, q))
 
   blocks_are : n ≡ length (blocks_at t i)
   unfolding block_rows
@@ -93,11 +69,11 @@ module _ (t : List ℕ) {x : Triple} (b k l h : ℕ) (e : as_three x ≡ read_fo
     no_more : length (lines_of (drop i t)) ≤ n + m
     no_more = omega (arith, ap length (sym past_all ∙ lines_none t p z), length-drop (n + m) (lines_of (drop i t)))
 
-    pub block_count_differs : (n ≡ b → ⊥) → kit_lines (lines_of t) ≡ refused Lines 0
+    pub block_count_differs : (n ≡ get_or vs 0 0 → ⊥) → kit_lines (lines_of t) ≡ refused Lines 0
     unfolding kit_with
     block_count_differs y = kit_line_is ∙ rw (← blocks_are, ← wires_are, le-ltb _ _ no_more, ne_eqb _ _ y)
 
-    pub is_fine : n ≡ b → IsFine t (record { stages = k; limit = l; blocks = n; wires = m; first_block = i; first_wire = j })
+    pub is_fine : n ≡ get_or vs 0 0 → IsFine t (record { stages = get_or vs 1 0; limit = get_or vs 2 0; blocks = n; wires = m; first_block = i; first_wire = j })
     unfolding kit_with
     is_fine y =
         record {
@@ -105,10 +81,3 @@ module _ (t : List ℕ) {x : Triple} (b k l h : ℕ) (e : as_three x ≡ read_fo
           blocks = blocks_are;
           wires = wires_are;
         }
-
--- a scan that is known to have come out so
-pub scan_fine : (t : List ℕ) (x : Scan) (y : Layout) → Scanned t x → x ≡ Fine y → IsFine t y
-scan_fine t x y s e = subst (Scanned t) e s
-
-pub scan_refused : (t : List ℕ) (x : Scan) (fault : Cause) (place : ℕ) → Scanned t x → x ≡ Refused fault place → kit_lines (lines_of t) ≡ refused fault place
-scan_refused t x fault place s e = subst (Scanned t) e s

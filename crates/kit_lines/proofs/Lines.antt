@@ -8,7 +8,8 @@ use Rattle.line_forms.specs.Form.{plain, plain_word, plain_fields, clear}
 use Rattle.line_forms.specs.Lines.{of_form}
 use Rattle.line_forms.specs.Read.{got, read_form}
 use Rattle.line_forms.proofs.Form.{fits_cons, read_sound}
-use Rattle.line_forms.proofs.Lines.{Reads, form_reads}
+use Rattle.line_forms.specs.Run.{Reads}
+use Rattle.line_forms.proofs.Lines.{form_reads}
 use Rattle.kit_lines.specs.Forms.{kit_form, block_form, wire_form}
 
 pub kit_clear : clear kit_form ≡ true
@@ -32,12 +33,6 @@ block_reads t = form_reads block_form block_clear t
 pub wire_reads : (t : List ℕ) → Reads (of_form wire_form) (λ n i. read_form wire_form t i) t
 wire_reads t = form_reads wire_form wire_clear t
 
--- the values of a line are 16-bit numbers
+-- the value of a block line is a 16-bit number
 pub block_low : (t : List ℕ) (i : ℕ) {v j : ℕ} → read_form block_form t i ≡ got (v ∷ []) j → v ≤ 65535
 block_low t i {v} {j} e = (fits_cons _ _ v [] (read_sound block_form block_clear t i (v ∷ []) j e).1).0
-
-pub wire_low : (t : List ℕ) (i : ℕ) {a b c j : ℕ} → read_form wire_form t i ≡ got (a ∷ b ∷ c ∷ []) j → (a ≤ 65535) × (b ≤ 65535) × (c ≤ 65535)
-wire_low t i {a} {b} {c} {j} e =
-    let x = fits_cons _ _ a (b ∷ c ∷ []) (read_sound wire_form wire_clear t i (a ∷ b ∷ c ∷ []) j e).1 in
-    let y = fits_cons _ _ b (c ∷ []) x.1 in
-    (x.0, y.0, (fits_cons _ _ c [] y.1).0)

@@ -1,25 +1,29 @@
 -- The lines of a text as the reader passes them, and what that leaves for the pass that writes.
-use Rattle.std.specs.Prelude.{ℕ, ◌≡◌, List, [], ◌∷◌, length, drop, eqb}
+use Rattle.std.specs.Prelude.{Result, Ok, Err, ℕ, ◌≡◌, List, [], ◌∷◌, length, drop}
 use Rattle.std.proofs.Math.Option.{Option}
-use Rattle.folds.specs.Fold.{pick}
 use Rattle.line_forms.specs.Form.{Form}
 use Rattle.line_forms.specs.Lines.{lines_of, of_form, Ran}
 use Rattle.kit_lines.specs.Forms.{kit_form, block_form, wire_form}
 use Rattle.kit_lines.specs.Kit.{Says, accepted, refused, kit_from, kit_lines, block_rows, wire_rows}
 use Rattle.kit_lines.specs.declared.Layout.{Layout}
-use Rattle.kit_lines.specs.declared.Scan.{Scan}
-use Rattle.kit_lines.specs.declared.Scan.TheVariants.{Fine, Refused}
+use Rattle.kit_lines.specs.declared.Kind.{Kind}
+use Rattle.kit_lines.specs.declared.Kind.TheVariants as kind
+use Rattle.validity.specs.declared.Refusal.{Refusal}
 
--- the form of the lines whose word begins with a letter: k, b, or any other for w
-abbrev pub form_of : ℕ → Form
-form_of letter = pick (eqb letter 107) kit_form (pick (eqb letter 98) block_form wire_form)
+-- the form of the lines of a kind
+abbrev pub form_of : Kind → Form
+form_of kind.Kit = kit_form
+form_of kind.Block = block_form
+form_of kind.Wire = wire_form
 
 -- and how many of them there may be
-abbrev pub most_of : ℕ → ℕ
-most_of letter = pick (eqb letter 107) 1 (pick (eqb letter 98) 512 1024)
+abbrev pub most_of : Kind → ℕ
+most_of kind.Kit = 1
+most_of kind.Block = 512
+most_of kind.Wire = 1024
 
-abbrev pub of_letter : ℕ → ℕ → List ℕ → Option (List ℕ)
-of_letter letter = of_form (form_of letter)
+abbrev pub of_kind : Kind → ℕ → List ℕ → Option (List ℕ)
+of_kind k = of_form (form_of k)
 
 -- the kit line of t has been passed, n block lines from place i on, and m wire lines from place j on; e is the place past them
 pub record Passed (t : List ℕ) (i n j m e : ℕ) : Type 0 where
@@ -46,6 +50,6 @@ pub record IsFine (t : List ℕ) (y : Layout) : Type 0 where
   pub wires : y.wires ≡ length (wires_at t y.first_wire)
 
 -- what the checks of the lines answer
-abbrev pub Scanned : List ℕ → Scan → Type 0
-Scanned t (Fine y) = IsFine t y
-Scanned t (Refused fault place) = kit_lines (lines_of t) ≡ refused fault place
+abbrev pub Scanned : List ℕ → Result Layout Refusal → Type 0
+Scanned t (Ok y) = IsFine t y
+Scanned t (Err r) = kit_lines (lines_of t) ≡ refused r.cause r.place

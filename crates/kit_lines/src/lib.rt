@@ -2,13 +2,13 @@
 
 ghost use Rattle.std.specs.Prelude.{◌≡◌};
 ghost use Rattle.line_forms.specs.Lines.{Ran, of_form};
-ghost use Rattle.line_forms.specs.Read.{read_form, as_one, as_three};
+ghost use Rattle.line_forms.specs.Read.{read_form};
 ghost use Rattle.kit_lines.specs.Forms.{kit_form, block_form, wire_form};
-ghost use Rattle.kit_lines.specs.Scan.{of_letter, most_of, Passed, Scanned};
+ghost use Rattle.kit_lines.specs.Scan.{of_kind, most_of, Passed, Scanned};
 
-use decimal::Number;
-use line_forms::{Run, Triple};
-use validity::Cause;
+use decimal::Field;
+use line_forms::{Run, run_of};
+use validity::{Cause, Refusal};
 
 // The lines of a kit text (document 01, "Kit text"), and the checks 15 and 16 over them.
 
@@ -23,56 +23,51 @@ pub struct Layout {
     pub first_wire: usize,
 }
 
+// The kinds of lines.
 #[derive(Clone, Copy)]
-pub enum Scan {
-    Fine(Layout),
-    Refused(Cause, usize),
+pub enum Kind {
+    Kit,
+    Block,
+    Wire,
 }
 
-pub fn kit_line(text: &[u8], at: usize) -> Triple
-    ensures { as_three result ≡ read_form kit_form text.now at }
+// The lines' forms, a function for each kind: the numbers of a line that has the form, and the place past it.
+pub fn kit_line(text: &[u8], at: usize) -> Option<([u32; 3], usize)>
+    ensures { result ≡ read_form kit_form text.now at }
 {
-    line_forms::three(
-        text,
-        at,
-        b"(kit (blocks ",
-        b") (stages ",
-        65535,
-        b") (limit ",
-        99_999_999,
-        b"))\n",
-    )
+    let fields = [
+        Field::new(b"(kit (blocks ", 65535),
+        Field::new(b") (stages ", 65535),
+        Field::new(b") (limit ", 99_999_999),
+    ];
+    line_forms::read(text, at, &fields, b"))\n")
 }
 
-// The form of a block line, in one place.
-pub fn block_line(text: &[u8], at: usize) -> Number
-    ensures { as_one result ≡ read_form block_form text.now at }
+pub fn block_line(text: &[u8], at: usize) -> Option<([u32; 1], usize)>
+    ensures { result ≡ read_form block_form text.now at }
 {
-    line_forms::one(text, at, b"(block (cost ", 65535, b"))\n")
+    line_forms::read(text, at, &[Field::new(b"(block (cost ", 65535)], b"))\n")
 }
 
-pub fn wire_line(text: &[u8], at: usize) -> Triple
-    ensures { as_three result ≡ read_form wire_form text.now at }
+pub fn wire_line(text: &[u8], at: usize) -> Option<([u32; 3], usize)>
+    ensures { result ≡ read_form wire_form text.now at }
 {
-    line_forms::three(
-        text,
-        at,
-        b"(wire (from ",
-        b") (to ",
-        65535,
-        b") (width ",
-        65535,
-        b"))\n",
-    )
+    let fields = [
+        Field::new(b"(wire (from ", 65535),
+        Field::new(b") (to ", 65535),
+        Field::new(b") (width ", 65535),
+    ];
+    line_forms::read(text, at, &fields, b"))\n")
 }
 
-// The kit line at a place, if it is there.
-fn head_line(text: &[u8], at: usize) -> Run
-    ensures { Ran (of_form kit_form) text.now 1 at result.count result.next }
+// The lines of one kind from a place on: one kit line, 512 block lines or 1,024 wire lines at most.
+pub fn lines_of(text: &[u8], at: usize, kind: Kind) -> Run
+    ensures { Ran (of_kind kind) text.now (most_of kind) at result.count result.next }
 {
-    match kit_line(text, at) {
-        Triple::Are(_, _, _, i) => Run { count: 1, next: i },
-        Triple::No => Run { count: 0, next: at },
+    match kind {
+        Kind::Kit => run_of(at, 1, |_, i| Some(kit_line(text, i)?.1)),
+        Kind::Block => run_of(at, 512, |_, i| Some(block_line(text, i)?.1)),
+        Kind::Wire => run_of(at, 1024, |_, i| Some(wire_line(text, i)?.1)),
     }
 }
 
@@ -80,68 +75,29 @@ fn head_line(text: &[u8], at: usize) -> Run
 pub fn block_lines(text: &[u8], at: usize) -> Run
     ensures { Ran (of_form block_form) text.now 512 at result.count result.next }
 {
-    let mut n: usize = 0;
-    let mut i = at;
-    while n < 512 {
-        let Number::Is(_, j) = block_line(text, i) else {
-            return Run { count: n, next: i };
-        };
-        i = j;
-        n += 1;
-    }
-    Run { count: n, next: i }
-}
-
-// The wire lines from a place on, at most 1,024.
-pub fn wire_lines(text: &[u8], at: usize) -> Run
-    ensures { Ran (of_form wire_form) text.now 1024 at result.count result.next }
-{
-    let mut n: usize = 0;
-    let mut i = at;
-    while n < 1024 {
-        let Triple::Are(_, _, _, j) = wire_line(text, i) else {
-            return Run { count: n, next: i };
-        };
-        i = j;
-        n += 1;
-    }
-    Run { count: n, next: i }
-}
-
-// The lines of one kind from a place on, by the letter that their word begins with: the kit line (k), block lines (b), wire
-// lines (any other).
-pub fn lines_of(text: &[u8], at: usize, letter: u8) -> Run
-    ensures { Ran (of_letter letter) text.now (most_of letter) at result.count result.next }
-{
-    if letter == b'k' {
-        return head_line(text, at);
-    }
-    if letter == b'b' {
-        return block_lines(text, at);
-    }
-    wire_lines(text, at)
+    lines_of(text, at, Kind::Block)
 }
 
 // The checks of the lines, 15 and then 16, of a text whose kit line, block lines and wire lines have been passed.
-pub fn judged(text: &[u8], head: Run, blocks: Run, wires: Run) -> Scan
+pub fn judged(text: &[u8], head: Run, blocks: Run, wires: Run) -> Result<Layout, Refusal>
     requires { Passed text.now head.next blocks.count blocks.next wires.count wires.next }
     ensures { Scanned text.now result }
 {
-    let Triple::Are(b, k, l, _) = kit_line(text, 0) else {
-        return Scan::Refused(Cause::Line, 1);
+    let Some(line) = kit_line(text, 0) else {
+        return Err(Cause::Line.at(1));
     };
     let n = blocks.count;
     let m = wires.count;
     let e = wires.next;
     if e < text.len() {
-        return Scan::Refused(Cause::Line, n + m + 2);
+        return Err(Cause::Line.at(n + m + 2));
     }
-    if n != line_forms::size(b) {
-        return Scan::Refused(Cause::Lines, 0);
+    if n != line.0[0] as usize {
+        return Err(Cause::Lines.at(0));
     }
-    Scan::Fine(Layout {
-        stages: k,
-        limit: l,
+    Ok(Layout {
+        stages: line.0[1],
+        limit: line.0[2],
         blocks: n,
         wires: m,
         first_block: head.next,

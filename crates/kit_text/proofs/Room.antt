@@ -9,9 +9,8 @@ use Rattle.folds.specs.Fold.{pick, over}
 use Rattle.line_forms.specs.Lines.{lines_of, column}
 use Rattle.line_forms.proofs.Lines.{length-column}
 use Rattle.kit_lines.specs.Kit.{Says, refused, kit_lines, kit_of}
-use Rattle.validity.specs.Cause.{Answer, refusal, told}
+use Rattle.validity.specs.Cause.{Answer, refusal, told, Passed}
 use Rattle.validity.specs.declared.Cause.TheVariants.{Room, Length}
-use Rattle.validity.specs.declared.Verdict.TheVariants.{Passed}
 use Rattle.kit_text.specs.Reading.{Lists, lists, figures, roomed, reading_of, written}
 use Rattle.kit_lines.specs.Scan.{blocks_at, wires_at, laid_out, IsFine}
 use Rattle.kit_lines.specs.declared.Layout.{Layout}

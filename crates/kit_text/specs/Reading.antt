@@ -1,12 +1,11 @@
 -- Reading a kit text into four borrowed lists: 14, 15, 16, then 4.
-use Rattle.std.specs.Prelude.{ℕ, ◌≤◌, List, [], ◌∷◌, ltb, length}
+use Rattle.std.specs.Prelude.{Result, ℕ, ◌≤◌, List, [], ◌∷◌, ltb, length}
 use Rattle.folds.specs.Fold.{pick, over}
 use Rattle.kit_lines.specs.Kit.{Kit, Says, accepted, refused, kit_of}
-use Rattle.validity.specs.Cause.{Answer, refusal, told}
+use Rattle.validity.specs.Cause.{Answer, refusal, told, Passed, answered, if_answered}
 use Rattle.validity.specs.declared.Cause.TheVariants.{Room}
-use Rattle.validity.specs.declared.Verdict.TheVariants.{Passed}
-use Rattle.kit_text.specs.declared.Reading.{Reading}
-use Rattle.kit_text.specs.declared.Reading.TheVariants as reading
+use Rattle.validity.specs.declared.Refusal.{Refusal}
+use Rattle.kit_text.specs.declared.Figures.{Figures}
 
 -- the four lists that the reading call borrows
 pub record Lists : Type 0 where
@@ -42,9 +41,8 @@ figures (refused cause place) = refusal cause place
 figures (accepted k) = told Passed (length k.costs ∷ length k.starts ∷ k.stages ∷ k.limit ∷ [])
 
 -- document 01's number and values of each case
-abbrev pub outcome : Reading → Answer
-outcome (reading.Kit blocks wires stages limit) = told Passed (blocks ∷ wires ∷ stages ∷ limit ∷ [])
-outcome (reading.Refused cause place) = refusal cause place
+abbrev pub outcome : Result Figures Refusal → Answer
+outcome r = if_answered r (λ f. answered (f.blocks ∷ f.wires ∷ f.stages ∷ f.limit ∷ [])) refusal
 
 -- lists that are long enough for a kit
 pub record ListsRoom (old : Lists) (k : Kit) : Type 0 where

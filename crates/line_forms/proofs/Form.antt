@@ -14,9 +14,7 @@ use Rattle.folds.specs.Fold.{pick, same}
 use Rattle.folds.proofs.Cases.{no_bool, both, both_i}
 use Rattle.folds.proofs.Cases.{chose}
 use Rattle.decimal.specs.Decimal.{decimal, digit, numbers, numbers_in}
-use Rattle.decimal.specs.Read.{starts_of}
-use Rattle.decimal.specs.declared.Number.{Number}
-use Rattle.decimal.specs.declared.Number.TheVariants.{Is, Not}
+use Rattle.decimal.specs.Read.{Number, Is, Not, starts_of}
 use Rattle.decimal.proofs.Text.{stops, by_digits, decimal_one, decimal_long, numbers_decimal, numbers_skip, starts_sound, starts_own, past, field_sound, field_own}
 use Rattle.line_forms.specs.Form.{Field, Form, printed_fields, printed, fits, as_form, plain, plain_word, plain_fields, clear}
 use Rattle.line_forms.specs.Lines.{lines_of, joined, newlines}
@@ -187,8 +185,9 @@ fields_numbers (f ∷ fs) end (v ∷ vs) h g w =
 -- ---------------------------------------------------------------- reading fields
 got_after : (v : ℕ) (g : Got) (vs : List ℕ) (j : ℕ) → after v g ≡ got vs j → (us : List ℕ) × (g ≡ got us j) × (v ∷ us ≡ vs)
 got_after v (got us k) vs j e =
-    let a : k ≡ j = cc in
-    let b : v ∷ us ≡ vs = cc in
+    let q : ◌≡◌ {A = List ℕ × ℕ} (v ∷ us, k) (vs, j) = cc in
+    let a : k ≡ j = ap (λ (x : List ℕ × ℕ). x.1) q in
+    let b : v ∷ us ≡ vs = ap (λ (x : List ℕ × ℕ). x.0) q in
     (us, rw a, b)
 got_after v nope vs j e = absurd (nope_got vs j e)
 
@@ -202,9 +201,13 @@ fields_sound [] end t i vs j p e = go vs (chose _ _ _ _ e)
   where
     is : (us : List ℕ) → starts_of end (drop i t) ≡ true → got [] (i + length end) ≡ got us j → (drop i t ≡ printed_fields [] end us ++ drop j t) × (fits [] us ≡ true)
     is [] h q =
-        let a : i + length end ≡ j = cc in
+        let w : ◌≡◌ {A = List ℕ × ℕ} ([], i + length end) ([], j) = cc in
+        let a : i + length end ≡ j = ap (λ (x : List ℕ × ℕ). x.1) w in
         (starts_sound end (drop i t) h ∙ ap (λ (s : List ℕ). end ++ s) (drop-drop (length end) i t ∙ ap (λ (k : ℕ). drop k t) a), refl)
-    is (u ∷ us) h q = let z : ◌≡◌ {A = ℕ} 0 1 = cc in absurd (omega arith)
+    is (u ∷ us) h q =
+        let w : ◌≡◌ {A = List ℕ × ℕ} ([], i + length end) (u ∷ us, j) = cc in
+        let z : ◌≡◌ {A = List ℕ} [] (u ∷ us) = ap (λ (x : List ℕ × ℕ). x.0) w in
+        absurd (omega (arith, ap length z))
 
     go : (us : List ℕ) → ((starts_of end (drop i t) ≡ true) × (got [] (i + length end) ≡ got us j)) ⊎ ((starts_of end (drop i t) ≡ false) × (nope ≡ got us j)) → (drop i t ≡ printed_fields [] end us ++ drop j t) × (fits [] us ≡ true)
     go us (inl x) = is us x.0 x.1

@@ -1,5 +1,5 @@
 -- Lines of a text that are read one after another from a place on: one law for every form.
-use Prim.Native.Nat.{ℕ, zero, suc, ◌+◌, ◌-◌, ◌≤◌, ◌<◌}
+use Prim.Native.Nat.{ℕ, min, zero, suc, ◌+◌, ◌-◌, ◌≤◌, ◌<◌}
 use mathlib.Core.Path.{◌≡◌, refl, sym, ap, ◌∙◌}
 use mathlib.Core.Bool.{Bool, true, false}
 use mathlib.Core.Logic.{◌⊎◌, inl, inr}
@@ -8,15 +8,19 @@ use mathlib.Core.Option.{Option, some, none}
 use native.Mathlib.Nat.{not-suc-le-zero, le_of_suc-le-suc}
 use native.Mathlib.Numerals.{add-one}
 use native.Mathlib.Omega.{arith}
-use lib.Dec.{eqb}
+use lib.Dec.{eqb, ltb}
 use lib.ListN.{length, get_or, set, take, drop, length-drop, drop_of_length-le}
 use lib.Seq.{drop-drop}
 use Rattle.folds.specs.Fold.{pick, Wrote, over}
-use Rattle.folds.proofs.Cases.{chose}
+use Rattle.folds.proofs.Cases.{chose, by}
+use borrow.Author.Tests.{ltb-true, ltb-false}
 use Rattle.folds.proofs.Slices.{wrote_none, wrote_turn, wrote_done}
 use Rattle.line_forms.specs.Form.{Form, printed, as_form, clear}
 use Rattle.line_forms.specs.Lines.{lines_of, joined, newlines, numbered, leading, column, of_form, Ran}
 use Rattle.line_forms.specs.Read.{Got, got, nope, read_form, if_numbered}
+use Rattle.line_forms.specs.Run.{Reads, place_of, entry_of}
+use Rattle.std.specs.Prelude.{Some, None}
+use Rattle.std.specs.Prelude as std
 use Rattle.line_forms.proofs.Form.{nope_got, one_lines, form_line, as_own, as_sound, read_sound, read_own}
 
 -- ---------------------------------------------------------------- the lines make the text
@@ -71,10 +75,8 @@ lines_left t i h = go (drop i t) refl
     go (b ∷ s) e = lines_some b s
 
 -- ---------------------------------------------------------------- one line, read from a place on
--- what a reader at a place finds is the line there: `say` makes of the line with its number what `read` finds
-pub record Reads (say : ℕ → List ℕ → Option (List ℕ)) (read : ℕ → ℕ → Got) (t : List ℕ) : Type 0 where
-  pub found : (n i : ℕ) (vs : List ℕ) (j : ℕ) → read n i ≡ got vs j → (l : List ℕ) × (lines_of (drop i t) ≡ l ∷ lines_of (drop j t)) × (say n l ≡ some vs)
-  pub missed : (n i : ℕ) → read n i ≡ nope → (l : List ℕ) (ls : List (List ℕ)) → lines_of (drop i t) ≡ l ∷ ls → say n l ≡ none
+none_place : (j : ℕ) → ◌≡◌ {A = std.Option ℕ} None (Some j) → ⊥
+none_place j e = let z : ◌≡◌ {A = ℕ} 0 1 = cc in omega arith
 
 pub none_or : (o : Option (List ℕ)) → ((vs : List ℕ) → o ≡ some vs → ⊥) → o ≡ none
 none_or none h = refl
@@ -101,7 +103,10 @@ if_numbered_lem n nope vs j e = absurd (nope_got vs j e)
 if_numbered_lem n (got us k) vs j e = go (chose _ _ _ _ e)
   where
     go : ((eqb (get_or us 0 0) n ≡ true) × (got us k ≡ got vs j)) ⊎ ((eqb (get_or us 0 0) n ≡ false) × (nope ≡ got vs j)) → (got us k ≡ got vs j) × (eqb (get_or vs 0 0) n ≡ true)
-    go (inl x) = let a : us ≡ vs = cc in (x.1, rw a at x.0)
+    go (inl x) =
+        let q : ◌≡◌ {A = List ℕ × ℕ} (us, k) (vs, j) = cc in
+        let a : us ≡ vs = ap (λ (y : List ℕ × ℕ). y.0) q in
+        (x.1, rw a at x.0)
     go (inr x) = absurd (nope_got vs j x.1)
 
 -- the same where the first number has to be the line's
@@ -206,8 +211,29 @@ module _ {say : ℕ → List ℕ → Option (List ℕ)} {read : ℕ → ℕ → 
     pub left_stop : read n i ≡ nope → Ran say t K from n i
     left_stop g = left_full_at (left_none g)
 
+    -- of a reader that answers the place past the line alone
+    pub left_ended : (o : std.Option ℕ) → o ≡ place_of (read n i) → o ≡ None → Ran say t K from n i
+    left_ended o e h = go (read n i) refl
+      where
+        go : (g : Got) → read n i ≡ g → Ran say t K from n i
+        go None q = left_stop q
+        go (Some (vs, j)) q = absurd (none_place _ (sym h ∙ (e ∙ ap place_of q)))
+
+    pub left_passed : (o : std.Option ℕ) (j : ℕ) → n < K → o ≡ place_of (read n i) → o ≡ Some j → Left say t K from (n + 1) j
+    left_passed o j l e h = go (read n i) refl
+      where
+        go : (g : Got) → read n i ≡ g → Left say t K from (n + 1) j
+        go None q = absurd (none_place _ (sym (ap place_of q) ∙ (sym e ∙ h)))
+        go (Some (vs, k)) q =
+            let w : ◌≡◌ {A = std.Option ℕ} (Some k) (Some j) = sym (ap place_of q) ∙ (sym e ∙ h) in
+            let a : k ≡ j = cc in
+            rw (← a) (left_turn vs k l q)
+
     pub left_full : K ≤ n → Ran say t K from n i
     left_full h = left_full_at (left_out h)
+
+    pub left_whole : n ≡ K → Ran say t K from K i
+    left_whole h = rw h at (left_full (omega arith))
 
     pub left_below : (vs : List ℕ) (j : ℕ) → n < K → read n i ≡ got vs j → n < length (all K from)
     left_below vs j h g = omega (arith, ap length (z.rest ∙ left_next vs j h g), length-drop n (all K from))
@@ -250,3 +276,66 @@ pub length-column : (c : ℕ) (rows : List (List ℕ)) → length (column c rows
 unfolding column
 length-column c [] = refl
 length-column c (vs ∷ rows) = ap suc (length-column c rows)
+
+-- ---------------------------------------------------------------- entries of lines that a function tells
+nil_of : {A : Type 0} (l : List A) → length l ≡ 0 → l ≡ []
+nil_of [] h = refl
+nil_of (x ∷ l) h = absurd (omega arith)
+
+-- n entries have been written, and the writing stands at i
+pub record Entered (say : ℕ → List ℕ → Option (List ℕ)) (t : List ℕ) (K from c : ℕ) (l₀ l : List ℕ) (n i : ℕ) : Type 0 where
+  pub left : Left say t K from n i
+  pub wrote : Writing say t K from c l₀ l n i
+
+none_entry : (p : ℕ × ℕ) → ◌≡◌ {A = std.Option (ℕ × ℕ)} None (Some p) → ⊥
+none_entry p e = let z : ◌≡◌ {A = ℕ} 0 1 = cc in omega arith
+
+module _ {say : ℕ → List ℕ → Option (List ℕ)} {read : ℕ → ℕ → Got} {t : List ℕ} (r : Reads say read t) where
+  pub entered_start : (K from c : ℕ) (l : List ℕ) → length (leading say 0 K (lines_of (drop from t))) ≤ length l → Entered say t K from c l l 0 from
+  entered_start K from c l h = record { left = left_start r K from; wrote = writing_start r K from c l h }
+
+  module _ {K from c n i : ℕ} {l₀ l : List ℕ} (w : Entered say t K from c l₀ l n i) where
+    pub entered_stop : (o : std.Option (ℕ × ℕ)) → o ≡ entry_of c (read n i) → o ≡ None → l ≡ over (column c (leading say 0 K (lines_of (drop from t)))) l₀
+    entered_stop o e h = go (read n i) refl
+      where
+        go : (g : Got) → read n i ≡ g → l ≡ over (column c (leading say 0 K (lines_of (drop from t)))) l₀
+        go None q = writing_stop r w.wrote w.left q
+        go (Some (vs, j)) q = absurd (none_entry _ (sym h ∙ (e ∙ ap (entry_of c) q)))
+
+    pub entered_turn : (o : std.Option (ℕ × ℕ)) (v j : ℕ) → n < K → o ≡ entry_of c (read n i) → o ≡ Some (v, j) → Entered say t K from c l₀ (set l n v) (n + 1) j
+    entered_turn o v j h e z = go (read n i) refl
+      where
+        go : (g : Got) → read n i ≡ g → Entered say t K from c l₀ (set l n v) (n + 1) j
+        go None q = absurd (none_entry _ (sym (ap (entry_of c) q) ∙ (sym e ∙ z)))
+        go (Some (vs, k)) q =
+            let y : ◌≡◌ {A = std.Option (ℕ × ℕ)} (Some (get_or vs c 0, k)) (Some (v, j)) = sym (ap (entry_of c) q) ∙ (sym e ∙ z) in
+            let x : ◌≡◌ {A = ℕ × ℕ} (get_or vs c 0, k) (v, j) = cc in
+            let a : k ≡ j = ap (λ (p : ℕ × ℕ). p.1) x in
+            let b : v ≡ get_or vs c 0 = sym (ap (λ (p : ℕ × ℕ). p.0) x) in
+            record { left = rw (← a) (left_turn r w.left vs k h q); wrote = rw (← a) (writing_turn r w.wrote w.left vs k v h q b) }
+
+    -- the same of a reader's numbers
+    module _ (vs : List ℕ) (j : ℕ) (h : n < K) (g : read n i ≡ got vs j) where
+      pub entered_room : n < length l
+      entered_room = writing_room r w.wrote w.left vs j h g
+
+      pub entered_line : Entered say t K from c l₀ (set l n (get_or vs c 0)) (n + 1) j
+      entered_line = record { left = left_turn r w.left vs j h g; wrote = writing_turn r w.wrote w.left vs j _ h g refl }
+
+    pub entered_none : read n i ≡ nope → l ≡ over (column c (leading say 0 K (lines_of (drop from t)))) l₀
+    entered_none g = writing_stop r w.wrote w.left g
+
+    pub entered_full : K ≤ n → l ≡ over (column c (leading say 0 K (lines_of (drop from t)))) l₀
+    entered_full h = writing_full r w.wrote w.left h
+
+    -- all lines have been read, or the list is full
+    pub entered_end : min K (length l) ≤ n → l ≡ over (column c (leading say 0 K (lines_of (drop from t)))) l₀
+    entered_end h =
+        by (ltb n K)
+        (λ e. let g = ltb-true n K e in (wrote_done w.wrote.wrote (column_none c _ (full (omega arith)))).1)
+        (λ e. writing_full r w.wrote w.left (ltb-false n K e))
+      where
+        full : length l ≤ n → leading say n (K - n) (lines_of (drop i t)) ≡ []
+        full g =
+            nil_of (leading say n (K - n) (lines_of (drop i t)))
+            (omega (arith, ap length w.left.rest, length-drop n (leading say 0 K (lines_of (drop from t))), w.wrote.room, w.wrote.wrote.same))

@@ -10,6 +10,12 @@ use lib.ListN.{length, get_or, drop, length-append}
 use Rattle.folds.proofs.Cases.{no_bool}
 use Rattle.decimal.specs.Decimal.{decimal}
 use Rattle.decimal.proofs.Text.{decimal_mono}
+use Rattle.std.specs.Prelude.{Some, None}
+use Rattle.std.specs.Prelude as std
+use Rattle.line_forms.specs.Read.{Got, got, read_form, if_numbered}
+use Rattle.line_forms.specs.Run.{entry_of}
+use Rattle.line_forms.proofs.Form.{read_sound}
+use Rattle.line_forms.proofs.Lines.{if_numbered_lem}
 use Rattle.line_forms.specs.Form.{Field, field, Form, form, printed_fields, printed, printed_all, fits, as_form, clear, needs_fields, needs, needs_all}
 use Rattle.line_forms.specs.Lines.{lines_of, leading, of_form, column}
 use Rattle.line_forms.proofs.Form.{one_lines, form_line, fits_cons, as_own, as_sound}
@@ -196,3 +202,28 @@ pub needs_all_lem : (f : Form) (rows : List (List ℕ)) → needs_all f rows ≡
 unfolding needs_all printed_all
 needs_all_lem f [] = refl
 needs_all_lem f (vs ∷ rows) = rw (needs_are f vs, needs_all_lem f rows) (sym (length-append (printed f vs) (printed_all f rows)))
+
+-- ---------------------------------------------------------------- the numbers of a line that was read
+pub line_most : (f : Form) → clear f ≡ true → (t : List ℕ) (i : ℕ) (vs : List ℕ) (j : ℕ) → read_form f t i ≡ got vs j → (c : ℕ) → get_or vs c 0 ≤ get_or (mosts f.fields) c 0
+line_most f c t i vs j e k = fits_most f.fields vs k (read_sound f c t i vs j e).1
+
+none_entry : (p : ℕ × ℕ) → ◌≡◌ {A = std.Option (ℕ × ℕ)} (Some p) None → ⊥
+none_entry p e = let z : ◌≡◌ {A = ℕ} 0 1 = cc in omega arith
+
+same_entry : (v j w k : ℕ) → ◌≡◌ {A = std.Option (ℕ × ℕ)} (Some (v, j)) (Some (w, k)) → v ≡ w
+same_entry v j w k e = let p : ◌≡◌ {A = ℕ × ℕ} (v, j) (w, k) = cc in ap (λ (x : ℕ × ℕ). x.0) p
+
+-- and of an entry that a reader tells
+pub entry_most : (f : Form) → clear f ≡ true → (t : List ℕ) (i c v j : ℕ) → Some (v, j) ≡ entry_of c (read_form f t i) → v ≤ get_or (mosts f.fields) c 0
+entry_most f d t i c v j e = go (read_form f t i) refl
+  where
+    go : (g : Got) → read_form f t i ≡ g → v ≤ get_or (mosts f.fields) c 0
+    go None q = absurd (none_entry _ (e ∙ ap (entry_of c) q))
+    go (Some (vs, k)) q = omega (arith, same_entry _ _ _ _ (e ∙ ap (entry_of c) q), line_most f d t i vs k q c)
+
+pub entry_most_numbered : (f : Form) → clear f ≡ true → (t : List ℕ) (n i c v j : ℕ) → Some (v, j) ≡ entry_of c (if_numbered n (read_form f t i)) → v ≤ get_or (mosts f.fields) c 0
+entry_most_numbered f d t n i c v j e = go (if_numbered n (read_form f t i)) refl
+  where
+    go : (g : Got) → if_numbered n (read_form f t i) ≡ g → v ≤ get_or (mosts f.fields) c 0
+    go None q = absurd (none_entry _ (e ∙ ap (entry_of c) q))
+    go (Some (vs, k)) q = omega (arith, same_entry _ _ _ _ (e ∙ ap (entry_of c) q), line_most f d t i vs k (if_numbered_lem n _ vs k q).0 c)

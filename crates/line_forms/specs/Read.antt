@@ -1,29 +1,26 @@
 -- How the readers of lines go along a text. What they find is tied to the lines of the text by the laws in proofs/Lines.antt.
-use Rattle.std.specs.Prelude.{ℕ, ◌+◌, List, [], ◌∷◌, ◌++◌, eqb, length, get_or, drop}
+use Rattle.std.specs.Prelude.{Option, Some, None, ℕ, ◌+◌, List, [], ◌∷◌, ◌++◌, eqb, length, get_or, drop}
 use Rattle.folds.specs.Fold.{pick}
-use Rattle.decimal.specs.Read.{starts_of, field_of}
-use Rattle.decimal.specs.declared.Number.{Number}
-use Rattle.decimal.specs.declared.Number.TheVariants.{Is, Not}
+use Rattle.decimal.specs.Read.{Number, starts_of, field_of}
 use Rattle.line_forms.specs.Form.{Field, Form}
-use Rattle.line_forms.specs.declared.Pair.{Pair}
-use Rattle.line_forms.specs.declared.Pair.TheVariants as pair
-use Rattle.line_forms.specs.declared.Triple.{Triple}
-use Rattle.line_forms.specs.declared.Triple.TheVariants as triple
-use Rattle.line_forms.specs.declared.Quadruple.{Quadruple}
-use Rattle.line_forms.specs.declared.Quadruple.TheVariants as quadruple
 
 -- the numbers of a line that was read, with the place past it
-pub data Got : Type 0 where
-  got : List ℕ → ℕ → Got
-  nope : Got
+abbrev pub Got : Type 0
+Got = Option (List ℕ × ℕ)
+
+pattern abbrev pub got : List ℕ → ℕ → Got
+got vs j = Some (vs, j)
+
+pattern abbrev pub nope : Got
+nope = None
 
 abbrev pub on_number : Number → (ℕ → ℕ → Got) → Got
-on_number (Is v j) f = f v j
-on_number Not f = nope
+on_number (Some (v, j)) f = f v j
+on_number None f = nope
 
 abbrev pub after : ℕ → Got → Got
-after v (got vs j) = got (v ∷ vs) j
-after v nope = nope
+after v (Some (vs, j)) = got (v ∷ vs) j
+after v None = nope
 
 -- the fields and the end, from place i of t on
 unfoldable pub read_fields : List Field → List ℕ → List ℕ → ℕ → Got
@@ -36,22 +33,5 @@ read_form f t i = read_fields f.fields (f.close ++ (10 ∷ [])) t i
 
 -- a line that was read, if its first number is n
 abbrev pub if_numbered : ℕ → Got → Got
-if_numbered n (got vs j) = pick (eqb (get_or vs 0 0) n) (got vs j) nope
-if_numbered n nope = nope
-
--- what the code's answers say
-abbrev pub as_one : Number → Got
-as_one (Is a i) = got (a ∷ []) i
-as_one Not = nope
-
-abbrev pub as_two : Pair → Got
-as_two (pair.Are a b i) = got (a ∷ b ∷ []) i
-as_two pair.No = nope
-
-abbrev pub as_three : Triple → Got
-as_three (triple.Are a b c i) = got (a ∷ b ∷ c ∷ []) i
-as_three triple.No = nope
-
-abbrev pub as_four : Quadruple → Got
-as_four (quadruple.Are a b c d i) = got (a ∷ b ∷ c ∷ d ∷ []) i
-as_four quadruple.No = nope
+if_numbered n (Some (vs, j)) = pick (eqb (get_or vs 0 0) n) (got vs j) nope
+if_numbered n None = nope

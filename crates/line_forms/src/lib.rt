@@ -1,32 +1,15 @@
 #![tactic(auto)]
 
-ghost use Rattle.std.specs.Prelude.{◌≡◌, ◌+◌, ◌<◌, ◌≤◌, [], ◌∷◌, ◌++◌, length};
-ghost use Rattle.decimal.specs.Decimal.{decimal};
+ghost use Rattle.std.specs.Prelude.{Some, ℕ, ◌≡◌, ◌+◌, ◌^◌, ◌<◌, ◌≤◌, length};
 ghost use Rattle.decimal.specs.Write.{Puts};
-ghost use Rattle.line_forms.specs.Form.{field};
-ghost use Rattle.line_forms.specs.Read.{read_fields, as_one, as_two, as_three, as_four};
+ghost use Rattle.line_forms.specs.Read.{read_fields};
+ghost use Rattle.line_forms.specs.Form.{printed_fields, needs_fields};
+ghost use Rattle.line_forms.specs.Lent.{fields_in};
+ghost use Rattle.line_forms.specs.Run.{IsRun, AreEntries};
 
-use decimal::Number;
+use decimal::Field;
 
-// Lines of one to four numbers with words around them, each read from a place on.
-
-#[derive(Clone, Copy)]
-pub enum Pair {
-    Are(u32, u32, usize),
-    No,
-}
-
-#[derive(Clone, Copy)]
-pub enum Triple {
-    Are(u32, u32, u32, usize),
-    No,
-}
-
-#[derive(Clone, Copy)]
-pub enum Quadruple {
-    Are(u32, u32, u32, u32, usize),
-    No,
-}
+// Lines of a few numbers with words around them, each read from a place on.
 
 // Lines of one form, one after another, and the place past them.
 #[derive(Clone, Copy)]
@@ -35,151 +18,90 @@ pub struct Run {
     pub next: usize,
 }
 
-pub fn size(x: u32) -> usize
-    ensures { result ≡ x }
+// The numbers of the line at a place, each after its word, and the place past what closes the line.
+pub fn read<const N: usize>(
+    text: &[u8],
+    at: usize,
+    fields: &[Field<'_>],
+    end: &[u8],
+) -> Option<([u32; N], usize)>
+    requires { length fields.now ≡ N }
+    ensures { result ≡ read_fields (fields_in fields.now) end.now text.now at }
 {
-    x as usize
-}
-
-pub fn narrow(v: u32) -> u16
-    requires { v ≤ 65535 }
-    ensures { result ≡ v }
-{
-    v as u16
-}
-
-pub fn one(text: &[u8], at: usize, p: &[u8], most: u32, end: &[u8]) -> Number
-    requires { (9 ≤ most) × (most < 100000000) }
-    ensures { as_one result ≡ read_fields (field p.now most ∷ []) end.now text.now at }
-{
-    let Number::Is(a, i) = decimal::field(text, at, p, most) else {
-        return Number::Not;
-    };
-    if !decimal::starts(text, i, end) {
-        return Number::Not;
+    let mut numbers = [0; N];
+    let mut i = at;
+    for (k, f) in fields.iter().enumerate() {
+        let (v, j) = f.read(text, i)?;
+        numbers[k] = v;
+        i = j;
     }
-    Number::Is(a, i + end.len())
+    if !decimal::starts(text, i, end) {
+        return None;
+    }
+    Some((numbers, i + end.len()))
 }
 
-pub fn two(text: &[u8], at: usize, p: &[u8], most: u32, q: &[u8], last: u32, end: &[u8]) -> Pair
-    requires { (9 ≤ most) × (most < 100000000) × (9 ≤ last) × (last < 100000000) }
-    ensures { as_two result ≡ read_fields (field p.now most ∷ field q.now last ∷ []) end.now text.now at }
+// The same line, written at a place, with the place past it returned.
+// stays: the place goes beside the buffer, as in `decimal::show`.
+pub fn put(buf: &mut [u8], at: usize, fields: &[Field<'_>], numbers: &[usize], end: &[u8]) -> usize
+    requires { at + length (printed_fields (fields_in fields.now) end.now numbers.now) ≤ length buf.old }
+    ensures { Puts buf.old at (printed_fields (fields_in fields.now) end.now numbers.now) buf.new result }
 {
-    let Number::Is(a, i) = decimal::field(text, at, p, most) else {
-        return Pair::No;
-    };
-    let Number::Is(b, j) = one(text, i, q, last, end) else {
-        return Pair::No;
-    };
-    Pair::Are(a, b, j)
-}
-
-// The first two numbers have the same range.
-pub fn three(
-    text: &[u8],
-    at: usize,
-    p: &[u8],
-    q: &[u8],
-    most: u32,
-    r: &[u8],
-    last: u32,
-    end: &[u8],
-) -> Triple
-    requires { (9 ≤ most) × (most < 100000000) × (9 ≤ last) × (last < 100000000) }
-    ensures { as_three result ≡ read_fields (field p.now most ∷ field q.now most ∷ field r.now last ∷ []) end.now text.now at }
-{
-    let Number::Is(a, i) = decimal::field(text, at, p, most) else {
-        return Triple::No;
-    };
-    let Pair::Are(b, c, j) = two(text, i, q, most, r, last, end) else {
-        return Triple::No;
-    };
-    Triple::Are(a, b, c, j)
-}
-
-// All four numbers have the same range.
-pub fn four(
-    text: &[u8],
-    at: usize,
-    p: &[u8],
-    q: &[u8],
-    r: &[u8],
-    s: &[u8],
-    most: u32,
-    end: &[u8],
-) -> Quadruple
-    requires { (9 ≤ most) × (most < 100000000) }
-    ensures { as_four result ≡ read_fields (field p.now most ∷ field q.now most ∷ field r.now most ∷ field s.now most ∷ []) end.now text.now at }
-{
-    let Number::Is(a, i) = decimal::field(text, at, p, most) else {
-        return Quadruple::No;
-    };
-    let Triple::Are(b, c, d, j) = three(text, i, q, r, most, s, most, end) else {
-        return Quadruple::No;
-    };
-    Quadruple::Are(a, b, c, d, j)
-}
-
-// The same lines, each written at a place, with the place past it returned.
-
-pub fn put_one(buf: &mut [u8], at: usize, p: &[u8], a: usize, end: &[u8]) -> usize
-    requires { at + length (p.now ++ (decimal a ++ end.now)) ≤ length buf.old }
-    ensures { Puts buf.old at (p.now ++ (decimal a ++ end.now)) buf.new result }
-{
-    let i = decimal::put_field(buf, at, p, a);
+    let mut i = at;
+    for (f, v) in fields.iter().zip(numbers) {
+        i = f.put(buf, i, *v);
+    }
     decimal::copy(buf, i, end)
 }
 
-pub fn put_two(
-    buf: &mut [u8],
-    at: usize,
-    p: &[u8],
-    a: usize,
-    q: &[u8],
-    b: usize,
-    end: &[u8],
-) -> usize
-    requires { at + length (p.now ++ (decimal a ++ (q.now ++ (decimal b ++ end.now)))) ≤ length buf.old }
-    ensures { Puts buf.old at (p.now ++ (decimal a ++ (q.now ++ (decimal b ++ end.now)))) buf.new result }
+// How many bytes the same line takes.
+pub fn needs(fields: &[Field<'_>], numbers: &[usize], end: &[u8]) -> usize
+    requires { needs_fields (fields_in fields.now) end.now numbers.now < 2 ^ 64 }
+    ensures { result ≡ needs_fields (fields_in fields.now) end.now numbers.now }
 {
-    let i = decimal::put_field(buf, at, p, a);
-    put_one(buf, i, q, b, end)
+    let mut sum = end.len();
+    for (f, v) in fields.iter().zip(numbers) {
+        sum += f.word.len() + decimal::width(*v);
+    }
+    sum
 }
 
-pub fn put_three(
-    buf: &mut [u8],
-    at: usize,
-    p: &[u8],
-    a: usize,
-    q: &[u8],
-    b: usize,
-    r: &[u8],
-    c: usize,
-    end: &[u8],
-) -> usize
-    requires { at + length (p.now ++ (decimal a ++ (q.now ++ (decimal b ++ (r.now ++ (decimal c ++ end.now)))))) ≤ length buf.old }
-    ensures { Puts buf.old at (p.now ++ (decimal a ++ (q.now ++ (decimal b ++ (r.now ++ (decimal c ++ end.now)))))) buf.new result }
+// The lines from a place on, at most so many: `line` is told a line's number and place, and answers the place past it.
+pub fn run_of<F: Fn(usize, usize) -> Option<usize>>(at: usize, most: usize, line: F) -> Run
+    requires { (n i : ℕ) → F.pre line n i }
+    ensures { IsRun (F.post line) at most result }
 {
-    let i = decimal::put_field(buf, at, p, a);
-    put_two(buf, i, q, b, r, c, end)
+    let mut i = at;
+    for n in 0..most {
+        let Some(j) = line(n, i) else {
+            return Run { count: n, next: i };
+        };
+        i = j;
+    }
+    Run {
+        count: most,
+        next: i,
+    }
 }
 
-pub fn put_four(
-    buf: &mut [u8],
+// Writes an entry of each line from a place on into a list, at most so many: `entry` is told a line's number and place, and
+// answers the entry and the place past the line.
+pub fn write_entries<F: Fn(usize, usize) -> Option<(u32, usize)>>(
+    list: &mut [u16],
     at: usize,
-    p: &[u8],
-    a: usize,
-    q: &[u8],
-    b: usize,
-    r: &[u8],
-    c: usize,
-    s: &[u8],
-    d: usize,
-    end: &[u8],
-) -> usize
-    requires { at + length (p.now ++ (decimal a ++ (q.now ++ (decimal b ++ (r.now ++ (decimal c ++ (s.now ++ (decimal d ++ end.now)))))))) ≤ length buf.old }
-    ensures { Puts buf.old at (p.now ++ (decimal a ++ (q.now ++ (decimal b ++ (r.now ++ (decimal c ++ (s.now ++ (decimal d ++ end.now)))))))) buf.new result }
+    most: usize,
+    entry: F,
+)
+    requires callable { (n i : ℕ) → F.pre entry n i }
+    requires low { (n i v j : ℕ) → F.post entry n i (Some (v, j)) → v ≤ 65535 }
+    ensures { AreEntries (F.post entry) at most list.old list.new }
 {
-    let i = decimal::put_field(buf, at, p, a);
-    put_three(buf, i, q, b, r, c, s, d, end)
+    let mut i = at;
+    for n in 0..most.min(list.len()) {
+        let Some((v, j)) = entry(n, i) else {
+            return;
+        };
+        list[n] = v as u16;
+        i = j;
+    }
 }

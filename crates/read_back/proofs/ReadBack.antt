@@ -13,8 +13,7 @@ use Rattle.folds.proofs.Lists.{get_d_past}
 use Rattle.folds.proofs.Slices.{take-over}
 use Rattle.folds.proofs.Sums.{sum_to_le}
 use Rattle.graph.specs.Graph.{Graph, vertices, edges, seen, crossing, cut, cut_of}
-use Rattle.validity.specs.Cause.{Answer, told}
-use Rattle.validity.specs.declared.Verdict.TheVariants.{Passed}
+use Rattle.validity.specs.Cause.{Answer, told, Passed}
 use Rattle.validity.proofs.Passed.{valid_sound}
 use Rattle.hierarchy.proofs.Own.{kept_few}
 use Rattle.validity.specs.Check.{most_vertices}

@@ -1,13 +1,13 @@
-use native.Mathlib.Omega.{arith}
+use Rattle.std.proofs.Common.{arith}
 use Rattle.answer_text.specs.Forms.{entry_form}
 use Rattle.answer_text.proofs.Entries.{needs_step, needs_end}
 use Rattle.answer_text.proofs.entries_room.Goals as goal
 
 pub returns-then-left-need : goal.returns-then-left-need
-returns-then-left-need c = omega (arith, c.loop-n.invariant.1, needs_step (entry_form c.args.word.now) c.args.entries.now c.loop-n.n c.loop-n-test.true, c.entry_length-need.ensures)
+returns-then-left-need c = omega (arith, c.loop-n.invariant, needs_step (entry_form c.args.word.now) c.args.entries.now c.loop-n.n c.loop-n-test.true, c.entry_length-need.ensures)
 
 pub loop-n-preserved : goal.loop-n-preserved
-loop-n-preserved c = (omega arith, omega (arith, c.loop-n.invariant.1, needs_step (entry_form c.args.word.now) c.args.entries.now c.loop-n.n c.loop-n-test.true, c.entry_length-need.ensures))
+loop-n-preserved c = omega (arith, c.loop-n.invariant, needs_step (entry_form c.args.word.now) c.args.entries.now c.loop-n.n c.loop-n-test.true, c.entry_length-need.ensures)
 
 pub returns : goal.returns
-returns c = omega (arith, c.loop-n.invariant.1, needs_end (entry_form c.args.word.now) c.args.entries.now c.loop-n.n c.loop-n-test.false)
+returns c = omega (arith, c.loop-n.invariant, needs_end (entry_form c.args.word.now) c.args.entries.now c.loop-n.n c.loop-n-test.false)

@@ -1,14 +1,9 @@
 -- Invariant: the lines before line n take what is no longer left.
-use Prim.Native.Nat.{◌+◌, ◌-◌, ◌≤◌}
-use mathlib.Core.Path.{◌≡◌}
-use lib.ListN.{length}
+use Rattle.std.proofs.Common.{◌+◌, ◌≡◌}
 use Rattle.line_forms.specs.Form.{needs_all}
 use Rattle.answer_text.specs.Forms.{entry_form}
 use Rattle.answer_text.proofs.Entries.{rows_from}
 use Rattle.answer_text.proofs.entries_room.Given as goal
 
 abbrev pub invariant-loop-n : goal.invariant-loop-n
-invariant-loop-n l = (l.n ≤ length l.entries) × (l.size + needs_all (entry_form l.word) (rows_from (entry_form l.word) l.entries l.n) ≡ l.left + needs_all (entry_form l.word) (rows_from (entry_form l.word) l.entries 0))
-
-abbrev pub decreases-loop-n : goal.decreases-loop-n
-decreases-loop-n l = length l.entries - l.n
+invariant-loop-n l = l.size + needs_all (entry_form l.word) (rows_from (entry_form l.word) l.entries l.n) ≡ l.left + needs_all (entry_form l.word) (rows_from (entry_form l.word) l.entries 0)

@@ -1,27 +1,13 @@
--- The words' lengths and the numbers' widths, summed.
-use mathlib.Core.Path.{ap}
-use native.Mathlib.Omega.{arith}
-use lib.ListN.{length}
-use Rattle.decimal.specs.Decimal.{decimal}
-use Rattle.line_forms.specs.Form.{needs_fields, needs}
+-- What the line's form says, at the entry as a number.
+use Rattle.std.proofs.Common.{arith, refl, ◌∙◌}
+use Rattle.line_forms.specs.Form.{needs}
+use Rattle.answer_text.proofs.Buffer.{entry_low}
 use Rattle.answer_text.proofs.entry_length.Goals as goal
 
-pub overflow_add-result : goal.overflow_add-result
-unfolding needs needs_fields
-overflow_add-result c = omega arith
-
-pub overflow_add-result-2 : goal.overflow_add-result-2
-unfolding needs needs_fields
-overflow_add-result-2 c = omega arith
-
-pub overflow_add-result-3 : goal.overflow_add-result-3
-unfolding needs needs_fields
-overflow_add-result-3 c = omega arith
-
-pub overflow_add-result-4 : goal.overflow_add-result-4
-unfolding needs needs_fields
-overflow_add-result-4 c = omega arith
+pub needs-requires : goal.needs-requires
+unfolding needs
+needs-requires c = rw c.entry_fields.ensures (entry_low c.args.word.now _ _ c.requires (omega arith) (omega arith))
 
 pub returns : goal.returns
-unfolding needs needs_fields
-returns c = omega (arith, ap (λ v. length (decimal v)) c.wide.ensures)
+unfolding needs
+returns c = c.needs.ensures ∙ rw (c.entry_fields.ensures, c.from.ensures) refl

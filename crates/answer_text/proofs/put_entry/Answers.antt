@@ -1,11 +1,11 @@
--- The entry as a number, in a line of two.
-use Rattle.line_forms.specs.Form.{printed_fields, printed}
+-- What the line's form says, at the entry as a number.
+use Rattle.line_forms.specs.Form.{printed}
 use Rattle.answer_text.proofs.put_entry.Goals as goal
 
-pub put_two-requires : goal.put_two-requires
-unfolding printed printed_fields
-put_two-requires c = rw c.wide.ensures c.requires
+pub put-requires : goal.put-requires
+unfolding printed
+put-requires c = rw (c.entry_fields.ensures, c.from.ensures) c.requires
 
 pub returns : goal.returns
-unfolding printed printed_fields
-returns c = rw (← c.wide.ensures) c.put_two.ensures
+unfolding printed
+returns c = rw (c.entry_fields.ensures, c.from.ensures) at c.put.ensures

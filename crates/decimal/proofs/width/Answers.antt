@@ -1,12 +1,11 @@
-use native.Mathlib.Omega.{arith}
-use Rattle.decimal.proofs.Writing.{counting_turn, counting_end, decimal_short}
+-- By the power of ten that `ilog10` finds.
+use Rattle.std.proofs.Common.{arith, sym}
+use Rattle.decimal.proofs.Writing.{width_is}
 use Rattle.decimal.proofs.width.Goals as goal
 
-pub overflow_add-n : goal.overflow_add-n
-overflow_add-n c = omega (arith, c.loop-w.invariant.sum, decimal_short c.args.v c.ranges.v.fits)
-
-pub loop-w-preserved : goal.loop-w-preserved
-loop-w-preserved c = counting_turn c.loop-w.invariant c.loop-w-test.true
-
 pub returns : goal.returns
-returns c = counting_end c.loop-w.invariant c.loop-w-test.false c.ranges.v.fits
+returns c =
+    record {
+      is = sym (width_is c.args.v _ _ c.max.ensures c.ilog10.ensures.power_le c.ilog10.ensures.next_power_gt);
+      low = omega (arith, c.ilog10.ensures.bound);
+    }

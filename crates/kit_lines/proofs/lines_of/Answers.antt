@@ -1,12 +1,13 @@
--- Each branch is the run of lines of its letter's form.
-use Rattle.kit_lines.proofs.Checks.{of_kit, of_block, of_wire}
+-- Each kind is the run of lines that its reader passes.
+use Rattle.std.proofs.Common.{rules}
+use Rattle.kit_lines.proofs.Lines.{kit_reads, block_reads, wire_reads}
 use Rattle.kit_lines.proofs.lines_of.Goals as goal
 
-pub returns-then-letter-eq107 : goal.returns-then-letter-eq107
-returns-then-letter-eq107 c = of_kit _ c.if-letter-eq107.true c.head_line.ensures
+pub returns-in-Kit : goal.returns-in-Kit
+returns-in-Kit c = rw c.in-Kit.is (c.run_of.ensures _ _ _ (kit_reads _) (λ n i r l p. search rules))
 
-pub returns-then-letter-eq98 : goal.returns-then-letter-eq98
-returns-then-letter-eq98 c = of_block _ c.if-letter-eq98.true c.block_lines.ensures
+pub returns-in-Block : goal.returns-in-Block
+returns-in-Block c = rw c.in-Block.is (c.run_of-in-Block.ensures _ _ _ (block_reads _) (λ n i r l p. search rules))
 
-pub returns : goal.returns
-returns c = of_wire _ c.if-letter-eq107.false c.if-letter-eq98.false c.wire_lines.ensures
+pub returns-in-Wire : goal.returns-in-Wire
+returns-in-Wire c = rw c.in-Wire.is (c.run_of-in-Wire.ensures _ _ _ (wire_reads _) (λ n i r l p. search rules))

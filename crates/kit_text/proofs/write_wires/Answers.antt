@@ -1,86 +1,66 @@
-use mathlib.Core.Path.{sym}
-use native.Mathlib.Omega.{arith}
-use Rattle.line_forms.proofs.Lines.{left_start, left_turn, writing_start, writing_room, writing_turn, writing_stop, writing_full}
+-- A wire line a turn, and an entry of it into each list.
+use Rattle.std.proofs.Common.{arith, sym}
+use Rattle.line_forms.proofs.Lines.{entered_start, entered_room, entered_line, entered_none, entered_full}
+use Rattle.line_forms.proofs.Rows.{line_most}
 use Rattle.kit_lines.specs.Kit.{wire_rows}
-use Rattle.kit_lines.proofs.Lines.{wire_reads, wire_low}
-use borrow.Author.Rules.{rules}
+use Rattle.kit_lines.specs.Forms.{wire_form}
+use Rattle.kit_lines.proofs.Lines.{wire_reads, wire_clear}
 use Rattle.kit_text.proofs.write_wires.Goals as goal
 
 pub loop-n-init : goal.loop-n-init
 unfolding wire_rows
-loop-n-init c = (
-  left_start (wire_reads _) _ _,
-  writing_start (wire_reads _) _ _ _ _ (search rules),
-  writing_start (wire_reads _) _ _ _ _ (search rules),
-  writing_start (wire_reads _) _ _ _ _ (search rules),
-)
+loop-n-init c =
+    record {
+      starts = entered_start (wire_reads _) _ _ _ _ c.requires.0;
+      ends = entered_start (wire_reads _) _ _ _ _ c.requires.1;
+      widths = entered_start (wire_reads _) _ _ _ _ c.requires.2;
+    }
 
 pub returns-in_default : goal.returns-in_default
 unfolding wire_rows
-returns-in_default c = let g = sym c.in_default.ensures in
+returns-in_default c =
+    let g = sym c.in_default.ensures in
+    let v = c.loop-n.invariant in
     record {
-      starts_after = writing_stop (wire_reads _) c.loop-n.invariant.1 c.loop-n.invariant.0 g;
-      ends_after = writing_stop (wire_reads _) c.loop-n.invariant.2 c.loop-n.invariant.0 g;
-      widths_after = writing_stop (wire_reads _) c.loop-n.invariant.3 c.loop-n.invariant.0 g;
+      starts_after = entered_none (wire_reads _) v.starts g;
+      ends_after = entered_none (wire_reads _) v.ends g;
+      widths_after = entered_none (wire_reads _) v.widths g;
     }
 
-pub narrow-requires : goal.narrow-requires
-unfolding wire_rows
-narrow-requires c = (wire_low _ _ (sym c.in-Are.ensures)).0
-
-pub offset_bounds-starts-n : goal.offset_bounds-starts-n
-unfolding wire_rows
-offset_bounds-starts-n c = omega arith
+pub overflow_cast-starts : goal.overflow_cast-starts
+overflow_cast-starts c = omega (arith, line_most wire_form wire_clear _ _ _ _ (sym c.in-Some.ensures) 0)
 
 pub bounds-starts-n : goal.bounds-starts-n
-unfolding wire_rows
-bounds-starts-n c = writing_room (wire_reads _) c.loop-n.invariant.1 c.loop-n.invariant.0 _ _ (omega arith) (sym c.in-Are.ensures)
+bounds-starts-n c = entered_room (wire_reads _) c.loop-n.invariant.starts _ _ c.loop-n-test.true (sym c.in-Some.ensures)
 
-pub narrow-requires-in-loop-n : goal.narrow-requires-in-loop-n
-unfolding wire_rows
-narrow-requires-in-loop-n c = (wire_low _ _ (sym c.in-Are.ensures)).1
-
-pub offset_bounds-ends-n : goal.offset_bounds-ends-n
-unfolding wire_rows
-offset_bounds-ends-n c = omega arith
+pub overflow_cast-ends : goal.overflow_cast-ends
+overflow_cast-ends c = omega (arith, line_most wire_form wire_clear _ _ _ _ (sym c.in-Some.ensures) 1)
 
 pub bounds-ends-n : goal.bounds-ends-n
-unfolding wire_rows
-bounds-ends-n c = writing_room (wire_reads _) c.loop-n.invariant.2 c.loop-n.invariant.0 _ _ (omega arith) (sym c.in-Are.ensures)
+bounds-ends-n c = entered_room (wire_reads _) c.loop-n.invariant.ends _ _ c.loop-n-test.true (sym c.in-Some.ensures)
 
-pub narrow-requires-in-loop-n-2 : goal.narrow-requires-in-loop-n-2
-unfolding wire_rows
-narrow-requires-in-loop-n-2 c = (wire_low _ _ (sym c.in-Are.ensures)).2
-
-pub offset_bounds-widths-n : goal.offset_bounds-widths-n
-unfolding wire_rows
-offset_bounds-widths-n c = omega arith
+pub overflow_cast-widths : goal.overflow_cast-widths
+overflow_cast-widths c = omega (arith, line_most wire_form wire_clear _ _ _ _ (sym c.in-Some.ensures) 2)
 
 pub bounds-widths-n : goal.bounds-widths-n
-unfolding wire_rows
-bounds-widths-n c = writing_room (wire_reads _) c.loop-n.invariant.3 c.loop-n.invariant.0 _ _ (omega arith) (sym c.in-Are.ensures)
-
-pub overflow_add-n : goal.overflow_add-n
-unfolding wire_rows
-overflow_add-n c = omega arith
-
-pub loop-n-smaller : goal.loop-n-smaller
-unfolding wire_rows
-loop-n-smaller c = omega arith
+bounds-widths-n c = entered_room (wire_reads _) c.loop-n.invariant.widths _ _ c.loop-n-test.true (sym c.in-Some.ensures)
 
 pub loop-n-preserved : goal.loop-n-preserved
-unfolding wire_rows
-loop-n-preserved c = let g = sym c.in-Are.ensures in (
-  left_turn (wire_reads _) c.loop-n.invariant.0 _ _ (omega arith) g,
-  writing_turn (wire_reads _) c.loop-n.invariant.1 c.loop-n.invariant.0 _ _ _ (omega arith) g c.narrow.ensures,
-  writing_turn (wire_reads _) c.loop-n.invariant.2 c.loop-n.invariant.0 _ _ _ (omega arith) g c.narrow-in-loop-n.ensures,
-  writing_turn (wire_reads _) c.loop-n.invariant.3 c.loop-n.invariant.0 _ _ _ (omega arith) g c.narrow-in-loop-n-2.ensures,
-)
+loop-n-preserved c =
+    let g = sym c.in-Some.ensures in
+    let v = c.loop-n.invariant in
+    record {
+      starts = entered_line (wire_reads _) v.starts _ _ c.loop-n-test.true g;
+      ends = entered_line (wire_reads _) v.ends _ _ c.loop-n-test.true g;
+      widths = entered_line (wire_reads _) v.widths _ _ c.loop-n-test.true g;
+    }
 
 pub returns : goal.returns
 unfolding wire_rows
-returns c = record {
-  starts_after = writing_full (wire_reads _) c.loop-n.invariant.1 c.loop-n.invariant.0 (omega arith);
-  ends_after = writing_full (wire_reads _) c.loop-n.invariant.2 c.loop-n.invariant.0 (omega arith);
-  widths_after = writing_full (wire_reads _) c.loop-n.invariant.3 c.loop-n.invariant.0 (omega arith);
-}
+returns c =
+    let v = c.loop-n.invariant in
+    record {
+      starts_after = entered_full (wire_reads _) v.starts c.loop-n-test.false;
+      ends_after = entered_full (wire_reads _) v.ends c.loop-n-test.false;
+      widths_after = entered_full (wire_reads _) v.widths c.loop-n-test.false;
+    }

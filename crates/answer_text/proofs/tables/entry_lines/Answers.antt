@@ -1,17 +1,7 @@
-use mathlib.Core.Path.{sym}
-use native.Mathlib.Omega.{arith}
-use Rattle.line_forms.proofs.Lines.{left_start, left_turn, left_stop, left_full}
+-- The lines that the reader of an entry passes.
+use Rattle.std.proofs.Common.{rules}
 use Rattle.answer_text.proofs.Saved.{entry_reads}
 use Rattle.answer_text.proofs.tables.entry_lines.Goals as goal
 
-pub loop-n-init : goal.loop-n-init
-loop-n-init c = left_start (entry_reads _) _ _
-
-pub returns-in_default : goal.returns-in_default
-returns-in_default c = left_stop (entry_reads _) c.loop-n.invariant (sym c.in_default.ensures)
-
-pub loop-n-preserved : goal.loop-n-preserved
-loop-n-preserved c = left_turn (entry_reads _) c.loop-n.invariant _ _ (omega arith) (sym c.in-Are.ensures)
-
 pub returns : goal.returns
-returns c = left_full (entry_reads _) c.loop-n.invariant (omega arith)
+returns c = c.run_of.ensures _ _ _ (entry_reads _) (λ n i r l p. search rules)

@@ -1,0 +1,30 @@
+-- Too short by the length of the text, or written: the head line, then the entries.
+use Rattle.line_forms.specs.Form.{needs, printed}
+use Rattle.line_forms.specs.Lent.{fields_in}
+use Rattle.answer_text.specs.Forms.{headed}
+use Rattle.answer_text.proofs.Buffer.{over_told, table_short, head_room, rest_room, table_written_lem}
+use Rattle.answer_text.proofs.write_table.Goals as goal
+
+pub needs-head-requires : goal.needs-head-requires
+unfolding needs
+needs-head-requires c = c.requires.few
+
+pub returns-then-table_over : goal.returns-then-table_over
+unfolding needs
+returns-then-table_over c =
+    let t = table_short (headed (fields_in c.args.fields.now)) c.args.figures.now c.args.word.now c.args.entries.now c.args.buf.now (over_told _ _ _ _ c.table_over.ensures c.needs-head.ensures c.if-table_over.true) in
+    record { result_value = t.0; buf_after = t.1 }
+
+pub put-i-requires : goal.put-i-requires
+unfolding needs printed
+put-i-requires c = head_room (headed (fields_in c.args.fields.now)) c.args.figures.now c.args.word.now c.args.entries.now c.args.buf.now (over_told _ _ _ _ c.table_over.ensures c.needs-head.ensures c.if-table_over.false)
+
+pub put_entries-requires : goal.put_entries-requires
+unfolding needs printed
+put_entries-requires c = rest_room (headed (fields_in c.args.fields.now)) c.args.figures.now c.args.word.now c.args.entries.now c.args.buf.now (over_told _ _ _ _ c.table_over.ensures c.needs-head.ensures c.if-table_over.false) c.put-i.ensures
+
+pub returns : goal.returns
+unfolding needs printed
+returns c =
+    let t = table_written_lem (headed (fields_in c.args.fields.now)) c.args.figures.now c.args.word.now c.args.entries.now c.args.buf.now (over_told _ _ _ _ c.table_over.ensures c.needs-head.ensures c.if-table_over.false) c.put-i.ensures c.put_entries.ensures in
+    record { result_value = t.0; buf_after = t.1 }
