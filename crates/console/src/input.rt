@@ -4,11 +4,7 @@ ghost use Rattle.std.specs.Prelude.{◌≡◌, ◌≤◌, IfOk, length};
 use std::io;
 use std::io::Read;
 
-pub fn space() -> [u8; 65537]
-    ensures { 65537 ≡ length result }
-{
-    [0; 65537]
-}
+pub const SPACE: usize = 65_537;
 
 // One read, after the bytes that are there already, and how many are there then.
 fn read_more(from: &mut impl Read, buf: &mut [u8], at: usize) -> io::Result<usize>
@@ -22,10 +18,9 @@ fn read_more(from: &mut impl Read, buf: &mut [u8], at: usize) -> io::Result<usiz
     Ok(at + got)
 }
 
-// How many bytes were read. A failed read is not the end of the input.
-pub fn read_all(from: &mut impl Read, buf: &mut [u8]) -> io::Result<usize>
-    ensures kept { length buf.new ≡ length buf.old }
-    ensures within { IfOk result (λ n. n ≤ length buf.old) }
+// The bytes that were read. A failed read is not the end of the input.
+pub fn read_all<'b>(from: &mut impl Read, buf: &'b mut [u8]) -> io::Result<&'b [u8]>
+    ensures within { IfOk result (λ s. length s.now ≤ length buf.old) }
 {
     let mut at = 0;
     // Each turn but the last gets a byte or more, so no run uses up the turns.
@@ -36,5 +31,5 @@ pub fn read_all(from: &mut impl Read, buf: &mut [u8]) -> io::Result<usize>
         }
         at = to;
     }
-    Ok(at)
+    Ok(&buf[..at])
 }

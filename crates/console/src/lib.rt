@@ -1,27 +1,19 @@
-// What the programs share: reading an input to its end, answers to standard output, words to standard error.
+// What the programs share: reading an input to its end, and a kit from it; answers to standard output, words to standard
+// error.
 #![tactic(auto)]
 
-use answer_text::Written;
+use graph::Problem;
+use reasons::texts::TextReason;
 use std::env::FillError;
-use std::io;
 use std::io::Write;
 use std::rt::{Env, Stderr, Stdout};
+use std::{fmt, io};
+use validity::Refusal;
 
 pub mod input;
+pub mod kits;
 
-// Where a program's answers go, and its words.
-#[derive(Clone, Copy)]
-pub struct Console {
-    pub answers: Stdout,
-    pub words: Stderr,
-}
-
-pub fn of(rt: &HostRuntime) -> Console {
-    Console {
-        answers: rt.stdout(),
-        words: rt.stderr(),
-    }
-}
+use kits::{KitSpace, front};
 
 // Whether the program was started with so many arguments or more.
 pub fn has_argument(env: &impl Env, count: usize) -> bool {
@@ -29,68 +21,99 @@ pub fn has_argument(env: &impl Env, count: usize) -> bool {
     !matches!(env.arg(count, &mut none), Err(FillError::NotPresent))
 }
 
-// Words that standard error does not take are lost: there is nowhere else to say them.
-pub fn say(to: Console, text: &[u8]) {
-    let _ = Print::write_all(&to.words, text);
+// Where a program's answers go, and its words, which begin with its name. Words that standard error does not take are lost:
+// there is nowhere else to say them.
+#[derive(Clone, Copy)]
+pub struct Console {
+    program: &'static str,
+    answers: Stdout,
+    words: Stderr,
 }
 
-// A sentence after the program's name.
-pub fn explain(to: Console, name: &[u8], words: &[u8]) {
-    say(to, name);
-    say(to, b": ");
-    say(to, words);
-}
-
-// Puts an error's words at the start of the buffer, and answers how long they are.
-fn put_words(buf: &mut [u8], why: io::Error) -> usize {
-    let size = buf.len();
-    let mut rest = buf;
-    let _ = write!(rest, "{why}");
-    size.saturating_sub(rest.len())
-}
-
-// The words of an error of the system, without the number that stands behind them.
-fn without_number(words: &[u8]) -> &[u8] {
-    let Ok(text) = std::str::from_utf8(words) else {
-        return words;
-    };
-    match text.split_once(" (os error ") {
-        Some((front, _)) => front.as_bytes(),
-        None => words,
+impl Console {
+    pub fn of(rt: &HostRuntime, program: &'static str) -> Console {
+        Console {
+            program,
+            answers: rt.stdout(),
+            words: rt.stderr(),
+        }
     }
-}
 
-// A line of what failed, and why.
-pub fn fail(to: Console, what: &[u8], why: io::Error) {
-    let mut buf = [0u8; 128];
-    let n = put_words(&mut buf, why);
-    explain(to, what, without_number(reasons::front::bytes(&buf, n)));
-    say(to, b"\n");
-}
+    pub fn say(self, words: &str) {
+        let _ = eprint!(self.words; "{words}");
+    }
 
-// Writes an answer to standard output, in one piece.
-pub fn answer(to: Console, name: &[u8], written: Written, buf: &[u8]) {
-    match written {
-        Written::Bytes(n) => {
-            if let Err(why) = Print::write_all(&to.answers, reasons::front::bytes(buf, n)) {
-                say(to, name);
-                fail(to, b": the answer cannot be written", why);
+    pub fn explain(self, reason: impl fmt::Display + Drop) {
+        let _ = eprintln!(self.words; "{}: {reason}", self.program);
+    }
+
+    // What failed, and why.
+    pub fn fail(self, what: &str, why: impl fmt::Display + Drop) {
+        let _ = eprintln!(self.words; "{}: {what}: {why}", self.program);
+    }
+
+    // A reason that has to do with a file. The file's name goes out as it came in, which need not be text.
+    pub fn explain_file(self, what: &str, name: &[u8], reason: impl fmt::Display + Drop) {
+        let _ = eprint!(self.words; "{}: {what}", self.program);
+        let _ = Print::write_all(&self.words, name);
+        let _ = eprintln!(self.words; ": {reason}");
+    }
+
+    // Writes an answer, the first bytes of its buffer, to standard output, in one piece.
+    pub fn answer(self, written: Option<usize>, buf: &[u8]) {
+        let Some(n) = written else {
+            self.explain("the answer does not fit its buffer");
+            return;
+        };
+        if let Err(why) = Print::write_all(&self.answers, front(buf, n)) {
+            self.fail("the answer cannot be written", Plain(why));
+        }
+    }
+
+    pub fn answer_refusal(self, refusal: Refusal) {
+        let mut buf = [0u8; 64];
+        let number = refusal.cause.number() as usize;
+        let written = answer_text::write_refusal(&mut buf, number, refusal.place);
+        self.answer(written, &buf);
+    }
+
+    pub fn refuse(self, refusal: Refusal, reason: impl fmt::Display + Drop) {
+        self.answer_refusal(refusal);
+        self.explain(reason);
+    }
+
+    // A text's kit, or none where the text is refused, which is then said.
+    pub fn kit_of<'s>(self, space: &'s mut KitSpace, text: &[u8]) -> Option<Problem<'s>> {
+        match space.read(text) {
+            Ok(kit) => Some(kit),
+            Err(refusal) => {
+                self.refuse(refusal, TextReason { text, refusal });
+                None
             }
         }
-        Written::Short => explain(to, name, b"the answer does not fit its buffer\n"),
     }
 }
 
-pub fn say_refusal(to: Console, name: &[u8], number: usize, place: usize) {
-    let mut buf = [0u8; 64];
-    let w = answer_text::write_refusal(&mut buf, number, place);
-    answer(to, name, w, &buf);
+// An error of the system in words, without the number that stands behind them.
+#[derive(Clone, Copy)]
+pub struct Plain(pub io::Error);
+
+impl fmt::Display for Plain {
+    fn fmt<W: fmt::Write>(&self, f: &mut fmt::Formatter<W>) -> fmt::Result {
+        let mut buf = [0u8; 128];
+        let words = std::str::from_utf8(words_of(self.0, &mut buf)).unwrap_or("no words");
+        match words.split_once(" (os error ") {
+            Some((front, _)) => f.write_str(front),
+            None => f.write_str(words),
+        }
+    }
 }
 
-// Refuses a text, with the reason.
-pub fn refuse_text(to: Console, name: &[u8], text: &[u8], number: usize, line: usize) {
-    let mut buf = [0u8; 1024];
-    say_refusal(to, name, number, line);
-    let n = reasons::of_text(&mut buf, text, number, line);
-    explain(to, name, reasons::front::bytes(&buf, n));
+// An error's words, at the start of the buffer.
+fn words_of(why: io::Error, buf: &mut [u8]) -> &[u8] {
+    let size = buf.len();
+    let mut rest = &mut *buf;
+    let _ = write!(rest, "{why}");
+    let n = size.saturating_sub(rest.len());
+    front(buf, n)
 }
