@@ -108,23 +108,10 @@ fn load(
     ensures result_value { outcome result ≡ figures (roomed (lists costs.old starts.old ends.old widths.old) (laid_out text.now y)) }
     ensures widths_after { lists costs.new starts.new ends.new widths.new ≡ written (roomed (lists costs.old starts.old ends.old widths.old) (laid_out text.now y)) (lists costs.old starts.old ends.old widths.old) }
 {
-    let short = Refusal {
-        cause: Cause::Room,
-        place: 0,
-    };
     let n = y.blocks;
     let m = y.wires;
-    if costs.len() < n {
-        return Err(short);
-    }
-    if starts.len() < m {
-        return Err(short);
-    }
-    if ends.len() < m {
-        return Err(short);
-    }
-    if widths.len() < m {
-        return Err(short);
+    if costs.len() < n || starts.len() < m || ends.len() < m || widths.len() < m {
+        return Err(Cause::Room.at(0));
     }
     write_costs(text, y.first_block, costs);
     write_wires(text, y.first_wire, starts, ends, widths);
@@ -148,10 +135,7 @@ pub fn read_kit(
     ensures widths_after { lists costs.new starts.new ends.new widths.new ≡ written (reading_of text.now (lists costs.old starts.old ends.old widths.old)) (lists costs.old starts.old ends.old widths.old) }
 {
     if text.len() > 65536 {
-        return Err(Refusal {
-            cause: Cause::Length,
-            place: 0,
-        });
+        return Err(Cause::Length.at(0));
     }
     let y = check_text(text)?;
     load(text, y, costs, starts, ends, widths)

@@ -3,30 +3,19 @@ use native.Mathlib.Omega.{arith}
 use Rattle.kit_text.specs.Reading.{lists}
 use Rattle.kit_text.proofs.Room.{too_short, short_costs, short_starts, short_ends, short_widths, all_written}
 use Rattle.kit_text.proofs.load.Goals as goal
+use Rattle.kit_text.proofs.load.Goals.{then-costs-n-via-then-costs-n, then-costs-n-via-else-costs-n+then-starts-m, then-costs-n-via-else-costs-n+else-starts-m+then-ends-m, then-costs-n-via-else-costs-n+else-starts-m+else-ends-m+then-widths-m}
 
 pub returns-then-costs-n : goal.returns-then-costs-n
 returns-then-costs-n c =
     let old = lists c.args.costs.now c.args.starts.now c.args.ends.now c.args.widths.now in
-    let t = too_short _ _ c.requires old (short_costs _ _ c.requires old c.if-costs-n.true) in
-    record { result_value = t.0; widths_after = t.1 }
-
-pub returns-then-starts-m : goal.returns-then-starts-m
-returns-then-starts-m c =
-    let old = lists c.args.costs.now c.args.starts.now c.args.ends.now c.args.widths.now in
-    let t = too_short _ _ c.requires old (short_starts _ _ c.requires old c.if-costs-n.false c.if-starts-m.true) in
-    record { result_value = t.0; widths_after = t.1 }
-
-pub returns-then-ends-m : goal.returns-then-ends-m
-returns-then-ends-m c =
-    let old = lists c.args.costs.now c.args.starts.now c.args.ends.now c.args.widths.now in
-    let t = too_short _ _ c.requires old (short_ends _ _ c.requires old c.if-costs-n.false c.if-starts-m.false c.if-ends-m.true) in
-    record { result_value = t.0; widths_after = t.1 }
-
-pub returns-then-widths-m : goal.returns-then-widths-m
-returns-then-widths-m c =
-    let old = lists c.args.costs.now c.args.starts.now c.args.ends.now c.args.widths.now in
-    let t = too_short _ _ c.requires old (short_widths _ _ c.requires old c.if-costs-n.false c.if-starts-m.false c.if-ends-m.false c.if-widths-m.true) in
-    record { result_value = t.0; widths_after = t.1 }
+    let t = too_short _ _ c.requires old
+    (elim c.then-costs-n.branch [
+      | then-costs-n-via-then-costs-n w ↦ short_costs _ _ c.requires old w.if-costs-n.true
+      | then-costs-n-via-else-costs-n+then-starts-m w ↦ short_starts _ _ c.requires old w.if-costs-n.false w.if-starts-m.true
+      | then-costs-n-via-else-costs-n+else-starts-m+then-ends-m w ↦ short_ends _ _ c.requires old w.if-costs-n.false w.if-starts-m.false w.if-ends-m.true
+      | then-costs-n-via-else-costs-n+else-starts-m+else-ends-m+then-widths-m w ↦ short_widths _ _ c.requires old w.if-costs-n.false w.if-starts-m.false w.if-ends-m.false w.if-widths-m.true
+    ]) in
+    record { result_value = rw c.at.ensures t.0; widths_after = t.1 }
 
 pub write_costs-requires : goal.write_costs-requires
 write_costs-requires c = omega (arith, c.requires.blocks)

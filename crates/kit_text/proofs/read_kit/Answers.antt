@@ -8,7 +8,7 @@ pub returns-then-text-gt65536 : goal.returns-then-text-gt65536
 returns-then-text-gt65536 c =
     let old = lists c.args.costs.now c.args.starts.now c.args.ends.now c.args.widths.now in
     let t = too_long _ old c.if-text-gt65536.true in
-    record { result_value = t.0; widths_after = t.1 }
+    record { result_value = rw c.at.ensures t.0; widths_after = t.1 }
 
 pub returns-in_err-y : goal.returns-in_err-y
 returns-in_err-y c =
