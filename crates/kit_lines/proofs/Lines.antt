@@ -1,8 +1,11 @@
--- The readers of block and wire lines, from what the code's branches say.
+-- The readers of block and wire lines, from what the code's branches say, and the kinds of lines by their letters.
 use Prim.Native.Nat.{ℕ, ◌≤◌}
 use mathlib.Core.Path.{◌≡◌, refl}
 use mathlib.Core.Bool.{true}
 use mathlib.Core.List.{List, [], ◌∷◌}
+use lib.Dec.{eqb}
+use Rattle.folds.specs.Fold.{pick}
+use Rattle.folds.proofs.Cases.{by}
 use Rattle.decimal.specs.Decimal.{digit}
 use Rattle.line_forms.specs.Form.{plain, plain_word, plain_fields, clear}
 use Rattle.line_forms.specs.Lines.{of_form}
@@ -11,6 +14,7 @@ use Rattle.line_forms.proofs.Form.{fits_cons, read_sound}
 use Rattle.line_forms.specs.Run.{Reads}
 use Rattle.line_forms.proofs.Lines.{form_reads}
 use Rattle.kit_lines.specs.Forms.{kit_form, block_form, wire_form}
+use Rattle.kit_lines.specs.Scan.{kind_of, form_of, most_of}
 
 pub kit_clear : clear kit_form ≡ true
 unfolding clear plain_fields plain_word plain digit
@@ -36,3 +40,10 @@ wire_reads t = form_reads wire_form wire_clear t
 -- the value of a block line is a 16-bit number
 pub block_low : (t : List ℕ) (i : ℕ) {v j : ℕ} → read_form block_form t i ≡ got (v ∷ []) j → v ≤ 65535
 block_low t i {v} {j} e = (fits_cons _ _ v [] (read_sound block_form block_clear t i (v ∷ []) j e).1).0
+
+-- the form of the lines that a letter stands for, and the most of them
+pub letter_form : (letter : ℕ) → form_of (kind_of letter) ≡ pick (eqb letter 107) kit_form (pick (eqb letter 98) block_form wire_form)
+letter_form letter = by (eqb letter 107) (λ e. rw e) (λ e. by (eqb letter 98) (λ f. rw (e, f)) (λ f. rw (e, f)))
+
+pub letter_most : (letter : ℕ) → most_of (kind_of letter) ≡ pick (eqb letter 107) 1 (pick (eqb letter 98) 512 1024)
+letter_most letter = by (eqb letter 107) (λ e. rw e) (λ e. by (eqb letter 98) (λ f. rw (e, f)) (λ f. rw (e, f)))

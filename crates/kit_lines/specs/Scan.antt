@@ -1,6 +1,7 @@
 -- The lines of a text as the reader passes them, and what that leaves for the pass that writes.
-use Rattle.std.specs.Prelude.{Result, Ok, Err, ℕ, ◌≡◌, List, [], ◌∷◌, length, drop}
+use Rattle.std.specs.Prelude.{Result, Ok, Err, ℕ, ◌≡◌, List, [], ◌∷◌, length, drop, eqb}
 use Rattle.std.proofs.Math.Option.{Option}
+use Rattle.folds.specs.Fold.{pick}
 use Rattle.line_forms.specs.Form.{Form}
 use Rattle.line_forms.specs.Lines.{lines_of, of_form, Ran}
 use Rattle.kit_lines.specs.Forms.{kit_form, block_form, wire_form}
@@ -9,6 +10,10 @@ use Rattle.kit_lines.specs.declared.Layout.{Layout}
 use Rattle.kit_lines.specs.declared.Kind.{Kind}
 use Rattle.kit_lines.specs.declared.Kind.TheVariants as kind
 use Rattle.validity.specs.declared.Refusal.{Refusal}
+
+-- the kind of the lines whose word begins with a letter: k, b, or any other for w
+abbrev pub kind_of : ℕ → Kind
+kind_of letter = pick (eqb letter 107) kind.Kit (pick (eqb letter 98) kind.Block kind.Wire)
 
 -- the form of the lines of a kind
 abbrev pub form_of : Kind → Form

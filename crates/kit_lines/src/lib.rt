@@ -4,7 +4,7 @@ ghost use Rattle.std.specs.Prelude.{◌≡◌};
 ghost use Rattle.line_forms.specs.Lines.{Ran, of_form};
 ghost use Rattle.line_forms.specs.Read.{read_form};
 ghost use Rattle.kit_lines.specs.Forms.{kit_form, block_form, wire_form};
-ghost use Rattle.kit_lines.specs.Scan.{of_kind, most_of, Passed, Scanned};
+ghost use Rattle.kit_lines.specs.Scan.{kind_of, of_kind, most_of, Passed, Scanned};
 
 use decimal::Field;
 use line_forms::{Run, run_of};
@@ -29,6 +29,19 @@ pub enum Kind {
     Kit,
     Block,
     Wire,
+}
+
+// The kind of lines whose word begins with a letter: k, b, or any other for w.
+impl From<u8> for Kind {
+    ghost from_gives = { λ letter kind. kind ≡ kind_of letter };
+
+    fn from(letter: u8) -> Kind {
+        match letter {
+            b'k' => Kind::Kit,
+            b'b' => Kind::Block,
+            _ => Kind::Wire,
+        }
+    }
 }
 
 // The lines' forms, a function for each kind: the numbers of a line that has the form, and the place past it.
