@@ -1,8 +1,8 @@
 -- What is known of the clusters: made by a sweep, made right again for one of them, and kept where one moves.
 use Prim.Native.Nat.{ℕ, ◌+◌, ◌≤◌, ◌<◌, min, max}
 use mathlib.Core.Path.{◌≡◌, refl, sym, ap, ◌∙◌}
-use mathlib.Core.Bool.{false, ◌&&◌}
-use mathlib.Core.Logic.{inl, inr}
+use mathlib.Core.Bool.{Bool, true, false, ◌&&◌}
+use mathlib.Core.Logic.{◌⊎◌, inl, inr}
 use mathlib.Core.List.{List}
 use native.Mathlib.Omega.{arith}
 use lib.Dec.{eqb, ltb, leb}
@@ -10,14 +10,16 @@ use lib.ListN.{length, get_or, set, length-set, replicate, get_or-replicate}
 use lib.Seq.{get_or-set_same, get_or-set_other}
 use borrow.Author.Tests.{eqb-true, eq-eqb, ne_eqb, ltb-true, ltb-false, leb-false, le-leb}
 use Rattle.folds.specs.Fold.{pick, turns}
-use Rattle.folds.proofs.Cases.{no_bool, by, either, eq_or_ne, mark_no}
+use Rattle.folds.proofs.Cases.{no_bool, by, either, eq_or_ne}
 use Rattle.folds.proofs.Choose.{choose_start, choose_kept, min_one, max_one}
 use Rattle.folds.proofs.Loops.{turns_zero, turns_step}
 use Rattle.graph.specs.Graph.{via}
 use Rattle.graph.specs.Links.{Linked}
 use Rattle.graph.proofs.Links.{On}
 use Rattle.neighbours.specs.Visit.{fold_by, lower_by, raise_by, low_next, high_before}
-use Rattle.neighbours.specs.Known.{Known, Swept, Opened, Fresh, among, Staled, Roused}
+use Rattle.neighbours.specs.declared.Mark.{Mark}
+use Rattle.neighbours.specs.declared.Mark.TheVariants.{Closed, Right, Stale}
+use Rattle.neighbours.specs.Known.{mark_at, Known, Swept, Opened, Fresh, among, Staled, Roused}
 
 -- a step at the edges whose near end is c
 abbrev at : List ℕ → (ℕ → ℕ → ℕ) → ℕ → ℕ → ℕ → ℕ
@@ -53,13 +55,24 @@ module _ (froms tos table : List ℕ) (k : ℕ) where
         high_is = rw p (at_turn tos high (λ i s. max s (via table froms i + 1)) 0 j S.high_long q S.high_is);
       }
 
+-- a mark is Stale, or not
+stale_or : (x : Mark) → (x ≡ Stale) ⊎ (x ≡ Stale → ⊥)
+stale_or Closed = inr (λ e. cc)
+stale_or Right = inr (λ e. cc)
+stale_or Stale = inl refl
+
+-- where a test's mark came out as Closed, the test failed
+closed_no : {t : Bool} {x : Mark} → x ≡ pick t Right Closed → x ≡ Closed → t ≡ false
+closed_no {t = true} e z = cc
+closed_no {t = false} e z = refl
+
 -- the marks after it
 module _ (table low high : List ℕ) (k : ℕ) where
-  pub opened_none : Opened table low high k 0 (replicate 512 2)
-  opened_none = record { long = refl; is = λ c l. absurd (omega arith); rest = λ c _ l. get_or-replicate {A = ℕ} 512 c 2 0 l }
+  pub opened_none : Opened table low high k 0 (replicate 512 Stale)
+  opened_none = record { long = refl; is = λ c l. absurd (omega arith); rest = λ c _ l. get_or-replicate 512 c Stale Closed l }
 
 module _ {froms tos table : List ℕ} {k : ℕ} where
-  pub known_new : {low high marks : List ℕ} {g : ℕ} → Swept froms tos table k (length froms) low high → Opened table low high k g marks → Known froms tos table k low high marks
+  pub known_new : {low high : List ℕ} {marks : List Mark} {g : ℕ} → Swept froms tos table k (length froms) low high → Opened table low high k g marks → Known froms tos table k low high marks
   unfolding low_next high_before
   known_new {marks = marks} {g = g} S O =
       record {
@@ -68,38 +81,41 @@ module _ {froms tos table : List ℕ} {k : ℕ} where
         marks_long = O.long;
         low_is = λ c l _. S.low_is c l;
         high_is = λ c l _. S.high_is c l;
-        closed = λ c l e. by (ltb c g) (λ t. mark_no (O.is c (ltb-true c g t)) e) (λ t. absurd (omega (arith, O.rest c (ltb-false c g t) l)));
+        closed = λ c l e. by (ltb c g) (λ t. closed_no (O.is c (ltb-true c g t)) e) (λ t. let r = O.rest c (ltb-false c g t) l in cc);
       }
 
   -- one cluster's numbers made right again
-  pub known_set : {low high marks : List ℕ} {h x y : ℕ} → h < 512 → x ≡ low_next froms tos table h k → y ≡ high_before froms tos table h
-      → Known froms tos table k low high marks → Fresh froms tos table k h (set low h x) (set high h y) (set marks h 1)
+  pub known_set : {low high : List ℕ} {marks : List Mark} {h x y : ℕ} → h < 512 → x ≡ low_next froms tos table h k → y ≡ high_before froms tos table h
+      → Known froms tos table k low high marks → Fresh froms tos table k h (set low h x) (set high h y) (set marks h Right)
   known_set {low} {high} {marks} {h} {x} {y} l ex ey K =
       record {
         known = record {
           low_long = length-set low h x ∙ K.low_long;
           high_long = length-set high h y ∙ K.high_long;
-          marks_long = length-set marks h 1 ∙ K.marks_long;
+          marks_long = length-set marks h Right ∙ K.marks_long;
           low_is = λ c lc n.
               either (eq_or_ne c h) (λ e. rw (e, get_or-set_same low h x 0 (omega (arith, K.low_long))) ex)
-              (λ o. rw (get_or-set_other low h c x 0 o) (K.low_is c lc (rw (get_or-set_other marks h c 1 0 o) at n)));
+              (λ o. rw (get_or-set_other low h c x 0 o) (K.low_is c lc (rw (get_or-set_other marks h c Right Closed o) at n)));
           high_is = λ c lc n.
               either (eq_or_ne c h) (λ e. rw (e, get_or-set_same high h y 0 (omega (arith, K.high_long))) ey)
-              (λ o. rw (get_or-set_other high h c y 0 o) (K.high_is c lc (rw (get_or-set_other marks h c 1 0 o) at n)));
+              (λ o. rw (get_or-set_other high h c y 0 o) (K.high_is c lc (rw (get_or-set_other marks h c Right Closed o) at n)));
           closed = λ c lc z.
-              either (eq_or_ne c h) (λ e. absurd (omega (arith, rw e at z, here)))
-              (λ o. rw (get_or-set_other low h c x 0 o, get_or-set_other high h c y 0 o) (K.closed c lc (rw (get_or-set_other marks h c 1 0 o) at z)));
+              either (eq_or_ne c h) (λ e. absurd (clash (sym here ∙ rw e at z)))
+              (λ o. rw (get_or-set_other low h c x 0 o, get_or-set_other high h c y 0 o) (K.closed c lc (rw (get_or-set_other marks h c Right Closed o) at z)));
         };
-        right = λ e. omega (arith, here);
+        right = λ e. let q = here in cc;
       }
     where
-      here : get_or (set marks h 1) h 0 ≡ 1
-      here = get_or-set_same marks h 1 0 (omega (arith, K.marks_long))
+      here : mark_at (set marks h Right) h ≡ Right
+      here = get_or-set_same marks h Right Closed (omega (arith, K.marks_long))
 
--- marks of 2 along a walk
-module _ (near far : List ℕ) {m : ℕ} {head next : List ℕ} (L : Linked (λ i. get_or near i 0) m head next) (numbers : List ℕ) (first last : ℕ) (marks : List ℕ) where
-  pub staled_turn : (h j : ℕ) {now : List ℕ} {c x : ℕ} → On (λ i. get_or near i 0) m h j → j < m → c ≡ get_or far j 0 → c < 512
-      → x ≡ pick (leb first (get_or numbers c 0) && leb (get_or numbers c 0) last) 2 (get_or now c 0)
+      clash : Right ≡ Closed → ⊥
+      clash e = cc
+
+-- marks of Stale along a walk
+module _ (near far : List ℕ) {m : ℕ} {head next : List ℕ} (L : Linked (λ i. get_or near i 0) m head next) (numbers : List ℕ) (first last : ℕ) (marks : List Mark) where
+  pub staled_turn : (h j : ℕ) {now : List Mark} {c : ℕ} {x : Mark} → On (λ i. get_or near i 0) m h j → j < m → c ≡ get_or far j 0 → c < 512
+      → x ≡ pick (leb first (get_or numbers c 0) && leb (get_or numbers c 0) last) Stale (mark_at now c)
       → Staled near far numbers first last h j marks now → Staled near far numbers first last h (get_or next j 0) marks (set now c x)
   unfolding among
   staled_turn h j {now} {c} {x} o l q lc ex S =
@@ -108,28 +124,28 @@ module _ (near far : List ℕ) {m : ℕ} {head next : List ℕ} (L : Linked (λ 
         far_ends = λ i li e.
             either (eq_or_ne (get_or far i 0) c)
             (λ z. by (leb first (get_or numbers c 0) && leb (get_or numbers c 0) last) (λ t. inl (rw (z, here, ex, t))) (λ t. inr (rw z t)))
-            (λ n. rw (get_or-set_other now c (get_or far i 0) x 0 n) (S.far_ends i (passed i li e (λ y. n (ap (λ (x : ℕ). get_or far x 0) y ∙ sym q))) e));
+            (λ n. rw (get_or-set_other now c (get_or far i 0) x Closed n) (S.far_ends i (passed i li e (λ y. n (ap (λ (x : ℕ). get_or far x 0) y ∙ sym q))) e));
         others = λ d n.
             either (eq_or_ne d c)
             (λ e. by (leb first (get_or numbers c 0) && leb (get_or numbers c 0) last) (λ t. absurd (n (rw (e, here, ex, t))))
-            (λ t. let old : x ≡ get_or now c 0 = rw t at ex in rw (e, here) (old ∙ S.others c (λ y. n (rw (e, here) (old ∙ y))))))
-            (λ z. get_or-set_other now c d x 0 z ∙ S.others d (rw (get_or-set_other now c d x 0 z) at n));
+            (λ t. let old : x ≡ mark_at now c = rw t at ex in rw (e, here) (old ∙ S.others c (λ y. n (rw (e, here) (old ∙ y))))))
+            (λ z. get_or-set_other now c d x Closed z ∙ S.others d (rw (get_or-set_other now c d x Closed z) at n));
       }
     where
-      here : get_or (set now c x) c 0 ≡ x
-      here = get_or-set_same now c x 0 (omega (arith, S.long))
+      here : mark_at (set now c x) c ≡ x
+      here = get_or-set_same now c x Closed (omega (arith, S.long))
 
       -- between j and the next edge of h there is none
       passed : (i : ℕ) → i < get_or next j 0 → get_or near i 0 ≡ h → (i ≡ j → ⊥) → i < j
       passed i li e n = by (ltb i j) (λ t. ltb-true i j t) (λ t. let g = ltb-false i j t in absurd ((L.nexts j l).skips i (omega arith) li (e ∙ sym (o.at l))))
 
-pub roused : {froms tos low high marks now now' : List ℕ} {h own t first last : ℕ} → length tos ≡ length froms → last ≡ max (own + 1) t → first ≡ min own (t + 1)
+pub roused : {froms tos low high : List ℕ} {marks now now' : List Mark} {h own t first last : ℕ} → length tos ≡ length froms → last ≡ max (own + 1) t → first ≡ min own (t + 1)
     → Staled froms tos high 0 last h (length froms) marks now → Staled tos froms low first 16 h (length tos) now now' → Roused froms tos h own t low high marks now'
 roused {high = high} {now = now} {now' = now'} e el ef S T =
     record {
       long = T.long;
       next = λ i l q.
-          either (eq_or_ne (get_or now' _ 0) 2) inl (λ n. either (S.far_ends i l q) (λ z. absurd (n (T.others _ n ∙ z))) (λ z. inr (rw (← el) z)));
+          either (stale_or (mark_at now' _)) inl (λ n. either (S.far_ends i l q) (λ z. absurd (n (T.others _ n ∙ z))) (λ z. inr (rw (← el) z)));
       before = λ i l q. either (T.far_ends i (omega arith) q) inl (λ z. inr (rw (← ef) z));
       others = λ c n. let z = T.others c n in z ∙ S.others c (λ y. n (z ∙ y));
     }
@@ -174,8 +190,8 @@ low_most near far table c k m =
     (λ j. eqb (get_or near j 0) c) (via table far) k m
 
 -- h has moved, to which something was open
-pub known_moved : {froms tos table low high marks marks' : List ℕ} {k h own t : ℕ} → k ≤ 16 → h < length table → own ≡ get_or table h 0 → Known froms tos table k low high marks
-    → (get_or marks h 0 ≡ 0 → ⊥) → Roused froms tos h own t low high marks marks' → Known froms tos (set table h t) k low high marks'
+pub known_moved : {froms tos table low high : List ℕ} {marks marks' : List Mark} {k h own t : ℕ} → k ≤ 16 → h < length table → own ≡ get_or table h 0 → Known froms tos table k low high marks
+    → (mark_at marks h ≡ Closed → ⊥) → Roused froms tos h own t low high marks marks' → Known froms tos (set table h t) k low high marks'
 unfolding low_next high_before
 known_moved {froms} {tos} {table} {low} {high} {marks} {marks'} {k} {h} {own} {t} lk lh eo K some R =
     record {
@@ -185,19 +201,19 @@ known_moved {froms} {tos} {table} {low} {high} {marks} {marks'} {k} {h} {own} {t
       low_is = λ c l n.
           let was = K.low_is c l (before c n) in
           low_kept froms tos table h t c (length froms) lh k (get_or low c 0) was
-          (λ j lj e z. either (R.before j lj z) (λ y. absurd (n (ap (λ (x : ℕ). get_or marks' x 0) (sym e) ∙ y)))
+          (λ j lj e z. either (R.before j lj z) (λ y. absurd (n (ap (mark_at marks') (sym e) ∙ y)))
           (λ y. let b = below low (min own (t + 1)) 16 c (omega (arith, was, low_most froms tos table c k (length froms))) (rw e at y) in (omega arith, omega arith)));
       high_is = λ c l n.
           let was = K.high_is c l (before c n) in
           high_kept tos froms table h t c (length froms) lh (get_or high c 0) was
-          (λ j lj e z. either (R.next j lj z) (λ y. absurd (n (ap (λ (x : ℕ). get_or marks' x 0) (sym e) ∙ y)))
+          (λ j lj e z. either (R.next j lj z) (λ y. absurd (n (ap (mark_at marks') (sym e) ∙ y)))
           (λ y. let b = beyond high (max (own + 1) t) c (rw e at y) in (omega arith, omega arith)));
       closed = λ c l z.
-          let old = sym (R.others c (λ y. omega arith)) ∙ z in
+          let old = sym (R.others c (λ y. cc)) ∙ z in
           either (eq_or_ne c h) (λ e. absurd (some (rw e at old))) (λ n. rw (get_or-set_other table h c t 0 n) (K.closed c l old));
     }
   where
-    before : (c : ℕ) → (get_or marks' c 0 ≡ 2 → ⊥) → get_or marks c 0 ≡ 2 → ⊥
+    before : (c : ℕ) → (mark_at marks' c ≡ Stale → ⊥) → mark_at marks c ≡ Stale → ⊥
     before c n e = n (R.others c n ∙ e)
 
 -- what the two walks from h gave, by the lists that they took

@@ -3,20 +3,22 @@
 #![tactic(auto)]
 
 ghost use Rattle.std.specs.Prelude.{◌≡◌, ℕ, ◌+◌, ◌&&◌, ◌<◌, ◌≤◌, min, max, length, get_or, leb};
-ghost use Rattle.folds.specs.Fold.{pick, when, turns, Read};
+ghost use Rattle.folds.specs.Fold.{pick, turns, Read};
 ghost use Rattle.graph.specs.Links.{Linked, Ended};
 ghost use Rattle.neighbours.specs.Visit.{Placed, Listed, Indexed, fold_by, low_next, high_before, SumsRoom, Added, Pulled};
+ghost use Rattle.neighbours.specs.declared.Mark.TheVariants.{Closed, Right, Stale};
 ghost use Rattle.neighbours.specs.Known.{open_to, Known, Swept, Opened, Fresh, Staled, Roused};
 
 use graph::{EdgeLists, LinkTable};
 
-// The marks: no candidate is open to the cluster; what is known of it is right; a neighbour's move may have changed it.
-// stays: numbers with names, no enum: the definitions (`Known`, `Opened`, `Roused`) state marks as numbers, and a new mark is a test's 0 or 1.
-pub const CLOSED: u8 = 0;
-
-pub const RIGHT: u8 = 1;
-
-pub const STALE: u8 = 2;
+// The mark of a cluster: no candidate is open to it; what is known of it is right; a neighbour's move may have changed it.
+#[derive(Clone, Copy, PartialEq, Eq)]
+#[repr(u8)]
+pub enum Mark {
+    Closed,
+    Right,
+    Stale,
+}
 
 // The part of each cluster.
 #[derive(Drop)]
@@ -32,7 +34,7 @@ pub struct PartTable {
 pub struct Numbers {
     pub low: [u16; 512],
     pub high: [u16; 512],
-    pub marks: [u8; 512],
+    pub marks: [Mark; 512],
 }
 
 // A row's edges, and their lists by the cluster that they leave and by the one that they enter.
@@ -113,12 +115,15 @@ fn is_open(own: u16, low: u16, high: u16, k: u16) -> bool
     (own < low && own + 1 < k) || (0 < own && high <= own)
 }
 
-// The mark of a cluster by its two numbers: `RIGHT` where a candidate is open, else `CLOSED`.
-#[tactic(auto, using(folds::proofs::Cases::bit_when))]
-fn mark_of(own: u16, low: u16, high: u16, k: u16) -> u8
-    ensures { result ≡ when (open_to own low high k) 1 }
+// The mark of a cluster by its two numbers: `Right` where a candidate is open, else `Closed`.
+fn mark_of(own: u16, low: u16, high: u16, k: u16) -> Mark
+    ensures { result ≡ pick (open_to own low high k) Right Closed }
 {
-    u8::from(is_open(own, low, high, k))
+    if is_open(own, low, high, k) {
+        Mark::Right
+    } else {
+        Mark::Closed
+    }
 }
 
 // Marks the clusters below g, and the rest as if an end of their edges had moved.
@@ -127,7 +132,7 @@ fn mark_open(table: &PartTable, k: usize, g: usize, numbers: &mut Numbers)
     ensures opened { Opened table.now.parts numbers.old.low numbers.old.high k g numbers.new.marks }
     ensures same { (numbers.new.low ≡ numbers.old.low) × (numbers.new.high ≡ numbers.old.high) }
 {
-    numbers.marks = [STALE; 512];
+    numbers.marks = [Mark::Stale; 512];
     for c in 0..g {
         numbers.marks[c] = mark_of(table.parts[c], numbers.low[c], numbers.high[c], k as u16);
     }
@@ -174,14 +179,14 @@ pub fn refresh(edges: &RowEdges<'_>, table: &PartTable, h: usize, k: usize, numb
     requires known { Known edges.now.from.now edges.now.to.now table.now.parts k numbers.old.low numbers.old.high numbers.old.marks }
     ensures { Fresh edges.now.from.now edges.now.to.now table.now.parts k h numbers.new.low numbers.new.high numbers.new.marks }
 {
-    if numbers.marks[h] != STALE {
+    if numbers.marks[h] != Mark::Stale {
         return;
     }
     let out = edges.leaving();
     let back = edges.entering();
     numbers.low[h] = fold_far(out, table, h, k as u16, |low: u16, part: u16| low.min(part));
     numbers.high[h] = fold_far(back, table, h, 0, |high: u16, part: u16| high.max(part + 1));
-    numbers.marks[h] = RIGHT;
+    numbers.marks[h] = Mark::Right;
 }
 
 // Adds the width to each part at the far ends of the edges whose near end is h.
@@ -221,11 +226,11 @@ pub fn pulls(
 }
 
 // The mark of a cluster after a neighbour has moved: stale where its number is one from first to last.
-fn restaled(mark: u8, number: u16, first: u16, last: u16) -> u8
-    ensures { result ≡ pick (leb first number && leb number last) 2 mark }
+fn restaled(mark: Mark, number: u16, first: u16, last: u16) -> Mark
+    ensures { result ≡ pick (leb first number && leb number last) Stale mark }
 {
     if first <= number && number <= last {
-        STALE
+        Mark::Stale
     } else {
         mark
     }
@@ -238,7 +243,7 @@ fn mark_far(
     numbers: &[u16; 512],
     first: u16,
     last: u16,
-    marks: &mut [u8; 512],
+    marks: &mut [Mark; 512],
 )
     requires { h < 512 }
     ensures { Staled side.entry.near.now side.entry.far.now numbers.now first last h (length side.entry.near.now) marks.old marks.new }

@@ -15,7 +15,9 @@ use Rattle.folds.proofs.Cases.{by, both, both_i, one_of, or_l, or_r, either, eq_
 use Rattle.folds.proofs.Best.{Best, best_none, best_one, best_to_lem, best_below_lem, best_alike}
 use Rattle.folds.proofs.Loops.{turns_zero, turns_turn}
 use Rattle.neighbours.specs.Visit.{Placed, Listed, pull_to, Pulled, Seated}
-use Rattle.neighbours.specs.Known.{open_to, Known, Fresh}
+use Rattle.neighbours.specs.declared.Mark.{Mark}
+use Rattle.neighbours.specs.declared.Mark.TheVariants.{Closed, Stale}
+use Rattle.neighbours.specs.Known.{open_to, mark_at, Known, Fresh}
 use Rattle.neighbours.proofs.Laws.{pull_between, pull_high, pull_low}
 use Rattle.part_sums.specs.declared.PartSums.{PartSums}
 use Rattle.pass.specs.declared.Target.{Target}
@@ -399,7 +401,7 @@ placed_set {table} h t p l =
     }
 
 -- what is known of a cluster where its part is one from its predecessors' to its successors'
-pub around_fresh : {froms tos widths table low high marks : List ℕ} {k h own lo hi : ℕ} → h < 512 → Listed froms tos widths → Seated froms tos table k h → Read table h 16 own
+pub around_fresh : {froms tos widths table low high : List ℕ} {marks : List Mark} {k h own lo hi : ℕ} → h < 512 → Listed froms tos widths → Seated froms tos table k h → Read table h 16 own
     → Fresh froms tos table k h low high marks → lo ≡ get_or low h 0 → hi ≡ get_or high h 0 → Around (pull_to froms tos widths table h) k own lo hi
 around_fresh {froms} {tos} {widths} {table} {k = k} {h = h} l L X o F el eh =
     let ln = el ∙ F.known.low_is h l F.right in
@@ -415,15 +417,15 @@ around_fresh {froms} {tos} {widths} {table} {k = k} {h = h} l L X o F el eh =
 
 module _ (froms tos widths costs : List ℕ) (bound h : ℕ) where
   -- a cluster to which nothing is open stays
-  closed_stays : {table low high marks : List ℕ} (S : PartSums) → h < 512 → Known froms tos table S.count low high marks → get_or marks h 0 ≡ 0
+  closed_stays : {table low high : List ℕ} {marks : List Mark} (S : PartSums) → h < 512 → Known froms tos table S.count low high marks → mark_at marks h ≡ Closed
       → choice_at froms tos widths costs bound h table S ≡ get_or table h 0
   unfolding choice_at
   closed_stays {marks = marks} S l K z =
-      let n : get_or marks h 0 ≡ 2 → ⊥ = λ e. omega arith in
+      let n : mark_at marks h ≡ Stale → ⊥ = λ e. cc in
       rw (← K.low_is h l n, ← K.high_is h l n) (closed_idle _ S _ _ bound _ _ (K.closed h l z))
 
   -- what is known of a cluster decides where it goes
-  pub goal_fresh : {own lo hi : ℕ} {r : Target} {table low high marks : List ℕ} (S : PartSums) → h < 512 → Read table h 16 own → Fresh froms tos table S.count h low high marks
+  pub goal_fresh : {own lo hi : ℕ} {r : Target} {table low high : List ℕ} {marks : List Mark} (S : PartSums) → h < 512 → Read table h 16 own → Fresh froms tos table S.count h low high marks
       → lo ≡ get_or low h 0 → hi ≡ get_or high h 0 → Aims (pull_to froms tos widths table h) S own (get_or costs h 0) bound lo hi r
       → Goal froms tos widths costs bound h table S low high marks r
   unfolding choice_at gain_at
@@ -435,17 +437,17 @@ module _ (froms tos widths costs : List ℕ) (bound h : ℕ) where
         known = F.known;
       }
 
-  -- where a cluster goes elsewhere: the sums allow it, and its mark is not 0
-  module _ {r : Target} {table low high marks : List ℕ} {S : PartSums} (G : Goal froms tos widths costs bound h table S low high marks r) (n : r.part ≡ get_or table h 0 → ⊥) where
+  -- where a cluster goes elsewhere: the sums allow it, and its mark is not Closed
+  module _ {r : Target} {table low high : List ℕ} {marks : List Mark} {S : PartSums} (G : Goal froms tos widths costs bound h table S low high marks r) (n : r.part ≡ get_or table h 0 → ⊥) where
     pub goal_allowed : get_or table h 0 < 16 → bound < 2 ^ 32 → Shifts S (get_or table h 0) r.part (get_or costs h 0)
     unfolding choice_at
     goal_allowed lo lb =
         rw G.is (allowed_shifts _ _ _ _ _ (choice_allowed _ _ _ _ _ _ _ (rw G.is at n)) lo (rw G.is at G.within) lb)
 
-    pub goal_marked : h < 512 → get_or marks h 0 ≡ 0 → ⊥
+    pub goal_marked : h < 512 → mark_at marks h ≡ Closed → ⊥
     goal_marked l z = n (G.is ∙ closed_stays S l G.known z)
 
-  pub goal_paid : {r : Target} {low high marks : List ℕ} (w : Work) → Goal froms tos widths costs bound h w.table w.sums low high marks r
+  pub goal_paid : {r : Target} {low high : List ℕ} {marks : List Mark} (w : Work) → Goal froms tos widths costs bound h w.table w.sums low high marks r
       → Visitable froms tos widths costs bound h w → r.gain ≤ w.cut
   unfolding Paid
   goal_paid w G p = rw (G.gain_is, G.is) p.paid
@@ -462,7 +464,7 @@ module _ (froms tos widths costs : List ℕ) (bound h : ℕ) where
   worked_move w own cost t gain counted S eo ec e n es eg en = rw (← e, ← eo, ← ec, ne_eqb t own n, es, en, eg)
 
   -- a visit that is left out
-  pub done_closed : {low high marks : List ℕ} (w : Work) → h < 512 → Placed w.table → Known froms tos w.table w.sums.count low high marks → get_or marks h 0 ≡ 0
+  pub done_closed : {low high : List ℕ} {marks : List Mark} (w : Work) → h < 512 → Placed w.table → Known froms tos w.table w.sums.count low high marks → mark_at marks h ≡ Closed
       → WorkDone w w 1 (worked froms tos widths costs bound h w)
   done_closed w l p K z = record { is_so = worked_stay w _ (sym (closed_stays w.sums l K z)) refl; placed = p; counts = refl; few = omega arith }
 

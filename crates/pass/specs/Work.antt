@@ -2,6 +2,7 @@
 use Rattle.std.specs.Prelude.{ℕ, ◌+◌, ◌-◌, ◌≤◌, ◌<◌, min, ◌≡◌, Bool, true, false, not, ◌&&◌, ◌||◌, ◌⊎◌, List, eqb, ltb, leb, get_or, set}
 use Rattle.folds.specs.Fold.{pick, when, best_to}
 use Rattle.neighbours.specs.Visit.{Placed, low_next, high_before, pull_to, Seated}
+use Rattle.neighbours.specs.declared.Mark.{Mark}
 use Rattle.neighbours.specs.Known.{Known}
 use Rattle.part_sums.specs.declared.PartSums.{PartSums}
 use Rattle.pass.specs.declared.Progress.{Progress}
@@ -133,7 +134,7 @@ pub record Visitable (froms tos widths costs : List ℕ) (bound h : ℕ) (w : Wo
   pub seated : Seated froms tos w.table w.sums.count h
 
 -- r is where the visit of cluster h takes it, and what is known afterwards of the clusters
-pub record Goal (froms tos widths costs : List ℕ) (bound h : ℕ) (table : List ℕ) (S : PartSums) (low high marks : List ℕ) (r : Target) : Type 0 where
+pub record Goal (froms tos widths costs : List ℕ) (bound h : ℕ) (table : List ℕ) (S : PartSums) (low high : List ℕ) (marks : List Mark) (r : Target) : Type 0 where
   pub is : r.part ≡ choice_at froms tos widths costs bound h table S
   pub within : r.part < 16
   pub gain_is : r.gain ≡ gain_at froms tos widths h table r.part

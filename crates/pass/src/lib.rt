@@ -10,7 +10,7 @@ ghost use Rattle.pass.specs.On.{pull_on, worked_on, VisitableOn};
 
 mod row;
 
-use neighbours::{Numbers, PartTable};
+use neighbours::{Mark, Numbers, PartTable};
 use part_sums::PartSums;
 pub use row::Row;
 use row::Visit;
@@ -207,7 +207,7 @@ fn refine_cluster(
     ensures work_done { WorkDone (work_of table.old.parts before) (work_of table.new.parts result) 1 (worked_on row.now h (work_of table.old.parts before)) }
     ensures known_2 { Knows row.now.edges table.new.parts before.sums.count numbers.new }
 {
-    if numbers.marks[h] == neighbours::CLOSED {
+    if numbers.marks[h] == Mark::Closed {
         return before;
     }
     let own = table.part_at(h);

@@ -14,7 +14,7 @@ ghost use Rattle.refine.specs.Tables.{Shared, Inherits};
 mod row;
 
 use graph::{EdgeLists, LinkTable, Lists, Problem, RowStore};
-use neighbours::{Numbers, PartTable, RowEdges};
+use neighbours::{Mark, Numbers, PartTable, RowEdges};
 use part_sums::PartSums;
 use pass::{Progress, Row};
 use row::{JoinedRow, Ladder};
@@ -54,7 +54,7 @@ fn settle(joined: JoinedRow<'_>, table: &mut PartTable, before: Progress) -> Pro
     let mut numbers = Numbers {
         low: [0u16; 512],
         high: [0u16; 512],
-        marks: [0u8; 512],
+        marks: [Mark::Stale; 512],
     };
     neighbours::survey(out, table, before.sums.count, g, &mut numbers);
     let edges = RowEdges {

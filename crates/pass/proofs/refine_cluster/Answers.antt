@@ -5,11 +5,12 @@ use Rattle.neighbours.proofs.Known.{known_moved}
 use mathlib.Core.Path.{refl, ◌∙◌}
 use native.Mathlib.Omega.{arith}
 use lib.Dec.{ltb}
+use borrow.Author.Rules.{rules}
 use Rattle.folds.proofs.Cases.{bit_few, bit_when}
 use Rattle.pass.proofs.refine_cluster.Goals as goal
 
-pub returns-then-numbers-h-eq-CLOSED-clause-work_done : goal.returns-then-numbers-h-eq-CLOSED-clause-work_done
-returns-then-numbers-h-eq-CLOSED-clause-work_done c = done_closed _ _ _ _ _ _ _ c.requires.h_bound.0 c.args.table.now.placed c.requires.known c.if-numbers-h-eq-CLOSED.true
+pub returns-then-eq-clause-work_done : goal.returns-then-eq-clause-work_done
+returns-then-eq-clause-work_done c = done_closed _ _ _ _ _ _ _ c.requires.h_bound.0 c.args.table.now.placed c.requires.known (search rules)
 
 pub returns-then-t-own-clause-work_done : goal.returns-then-t-own-clause-work_done
 returns-then-t-own-clause-work_done c = record { is_so = worked_stay _ _ _ _ _ _ _ _ c.goal-aim.ensures.is (c.if-t-own.true ∙ c.part_at-own.ensures.is); placed = c.args.table.now.placed; counts = refl; few = omega arith }
