@@ -304,15 +304,13 @@ fn is_ranked(edges: EdgeLists<'_>, g: usize) -> bool
     rises_by(&ranks.cells, edges)
 }
 
-// Whether the edges are seen to form no cycle: where thinning is likely to leave few of them they are thinned, and what is left is ranked. False says nothing.
-fn is_free(edges: EdgeLists<'_>, left: &[u8; 512], g: usize) -> bool
+// Whether ranks can be guessed for g clusters that rise along every edge which thinning leaves. A function of its own, as `search` is, since the arrays
+// would else be zeroed where nothing is thinned too.
+fn is_rest_ranked(edges: EdgeLists<'_>, left: &[u8; 512], g: usize) -> bool
     requires marked { Marked edges.starts.now (length edges.starts.now) left.now }
     requires g_bound { g ≤ 512 }
     ensures { result ≡ true → Acyclic (Edge (arcs_in edges.entry)) }
 {
-    if is_thick(edges.ends, left) {
-        return is_ranked(edges, g);
-    }
     let mut sieve = Sieve {
         from: [0; 1024],
         to: [0; 1024],
@@ -329,6 +327,33 @@ fn is_free(edges: EdgeLists<'_>, left: &[u8; 512], g: usize) -> bool
     is_ranked(rest, g)
 }
 
+// Whether the edges are seen to form no cycle: where thinning is likely to leave few of them they are thinned, and what is left is ranked. False says nothing.
+fn is_free(edges: EdgeLists<'_>, left: &[u8; 512], g: usize) -> bool
+    requires marked { Marked edges.starts.now (length edges.starts.now) left.now }
+    requires g_bound { g ≤ 512 }
+    ensures { result ≡ true → Acyclic (Edge (arcs_in edges.entry)) }
+{
+    if is_thick(edges.ends, left) {
+        return is_ranked(edges, g);
+    }
+    is_rest_ranked(edges, left, g)
+}
+
+// The lowest of g clusters that lies on a cycle, if any, by an order of them.
+fn search(edges: EdgeLists<'_>, g: usize) -> Option<usize>
+    requires inside { Inside (arcs_in edges) g }
+    requires g_bound { g ≤ 512 }
+    ensures { result ≡ if_below g (lowest_on_cycle (arcs_in edges.entry) g) }
+{
+    let mut taken = [0u16; 512];
+    let mut levels = [0u16; 512];
+    let mut links = LinkTable {
+        head: [0; 513],
+        next: [0; 1024],
+    };
+    ordering::lowest_on_cycle(edges, g, &mut taken, &mut levels, &mut links)
+}
+
 // The lowest of g clusters that lies on a cycle, if any: searched for only where the edges are not seen to form none. What they leave is marked.
 // stays: `Marked` and `Inside` are clauses: a type of the edges, the marks and g would be built for one call.
 pub fn find_cycle(edges: EdgeLists<'_>, left: &[u8; 512], g: usize) -> Option<usize>
@@ -340,11 +365,5 @@ pub fn find_cycle(edges: EdgeLists<'_>, left: &[u8; 512], g: usize) -> Option<us
     if is_free(edges, left, g) {
         return None;
     }
-    let mut taken = [0u16; 512];
-    let mut levels = [0u16; 512];
-    let mut links = LinkTable {
-        head: [0; 513],
-        next: [0; 1024],
-    };
-    ordering::lowest_on_cycle(edges, g, &mut taken, &mut levels, &mut links)
+    search(edges, g)
 }
