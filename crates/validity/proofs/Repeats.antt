@@ -3,7 +3,6 @@ use Prim.Native.Nat.{ℕ, ◌+◌, ◌*◌, ◌/◌, ◌%◌, ◌^◌, ◌≤◌
 use mathlib.Core.Path.{◌≡◌, refl, sym, ap, ◌∙◌}
 use mathlib.Core.Bool.{Bool, true, false, ◌&&◌, or-false}
 use mathlib.Core.List.{List}
-use Rattle.std.specs.Prelude.{Option, Some, None}
 use native.Mathlib.Nat.{div-add-mod', div-lt_iff_lt-mul, mod-lt, suc-mul, mul-le-mul_right}
 use native.Mathlib.Omega.{arith}
 use lib.Arith.{digits_div, digits_mod}
@@ -11,7 +10,7 @@ use lib.Bits.{bit_or}
 use lib.Dec.{eqb, ltb}
 use lib.ListN.{length, get_or, set}
 use lib.Seq.{get_or-set_same, get_or-set_other}
-use borrow.Author.Tests.{eqb-true, eq-eqb, ne_eqb, ltb-true, ltb-false}
+use borrow.Author.Tests.{eqb-true, eq-eqb, ne_eqb, ltb-true, ltb-false, lt-ltb, le-ltb}
 use Rattle.folds.specs.Fold.{first_to, any_to}
 use Rattle.folds.proofs.Cases.{by, no_bool, either, eq_or_ne, both, both_i, and_false, same_test}
 use Rattle.folds.proofs.Searches.{first_to_none, first_to_hit, any_i, any_ext, any_step, any_zero}
@@ -26,7 +25,7 @@ use Rattle.validity.specs.Drawn.{tried_by, checked_with}
 use Rattle.validity.specs.declared.Checked.{Checked}
 use Rattle.validity.specs.declared.Cause.{Cause}
 use Rattle.validity.specs.declared.Cause.TheVariants.{Repeat}
-use Rattle.validity.proofs.Checks.{lists_early, no_some, at_some, at_none}
+use Rattle.validity.proofs.Checks.{lists_early}
 use Rattle.validity.specs.Words.{WordsRoom, word_of, is_bit, BitsSet, Trying}
 use Rattle.validity.specs.Cause.{Verdict, Passed, Refused}
 
@@ -161,15 +160,15 @@ fits_roomy {starts = starts} {ends = ends} stride F l =
     }
 
 -- what the search answered: where it found none, all edges were tried, and check 8 decides
-module _ {starts ends : List ℕ} {place : Option ℕ} {t : ℕ} (F : Found starts ends place t) where
-  pub tried_all : place ≡ None → t ≡ length starts
+module _ {starts ends : List ℕ} {place t : ℕ} (F : Found starts ends place t) where
+  pub tried_all : length starts ≤ place → t ≡ length starts
   unfolding tried
-  tried_all e = F.count_is ∙ by (ltb (first_repeat starts ends) (length starts)) (λ y. absurd (no_some (rw (e, y) at F.place_is))) (λ n. rw n refl)
+  tried_all l = F.count_is ∙ rw (← F.place_is, le-ltb _ _ l) refl
 
-  pub repeat_refused : {j : ℕ} {x : Checked} (n : ℕ) → place ≡ Some j → (x.verdict ≡ Refused Repeat j) × (x.tried ≡ t) → (x.verdict ≡ repeats_from n starts ends) × (x.tried ≡ tried_of starts ends)
-  unfolding repeats_from
-  repeat_refused n e (v, c) = (v ∙ at_some _ _ _ _ (sym e ∙ F.place_is), c ∙ F.count_is)
+  pub repeat_refused : {x : Checked} (n : ℕ) → place < length starts → (x.verdict ≡ Refused Repeat place) × (x.tried ≡ t) → (x.verdict ≡ repeats_from n starts ends) × (x.tried ≡ tried_of starts ends)
+  unfolding repeats_from refuse_at
+  repeat_refused n l (v, c) = (rw (← F.place_is, lt-ltb _ _ l) v, c ∙ F.count_is)
 
-  pub repeat_passed : {r : Verdict} (n : ℕ) → place ≡ None → r ≡ cycles_from n starts ends → (r ≡ repeats_from n starts ends) × (t ≡ tried_of starts ends)
-  unfolding repeats_from
-  repeat_passed n e h = (at_none _ _ _ (sym e ∙ F.place_is) h, F.count_is)
+  pub repeat_passed : {r : Verdict} (n : ℕ) → length starts ≤ place → r ≡ cycles_from n starts ends → (r ≡ repeats_from n starts ends) × (t ≡ tried_of starts ends)
+  unfolding repeats_from refuse_at
+  repeat_passed n l h = (rw (← F.place_is, le-ltb _ _ l) h, F.count_is)

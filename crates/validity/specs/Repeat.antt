@@ -1,6 +1,6 @@
 -- Document 02, b: the search for a repeated wire tries them from the lowest up as repeats of earlier ones and ends at the first find.
-use Rattle.std.specs.Prelude.{ℕ, ◌+◌, ◌≡◌, Option, List, ltb, length}
-use Rattle.folds.specs.Fold.{pick, first_to, if_below}
+use Rattle.std.specs.Prelude.{ℕ, ◌+◌, ◌≡◌, List, ltb, length}
+use Rattle.folds.specs.Fold.{pick, first_to}
 use Rattle.validity.specs.Check.{repeats}
 
 -- its place: the lowest repeating wire, or m
@@ -15,6 +15,6 @@ abbrev pub tried_of : List ℕ → List ℕ → ℕ
 tried_of starts ends = tried (first_repeat starts ends) (length starts)
 
 -- what it answers
-pub record Found (starts ends : List ℕ) (place : Option ℕ) (count : ℕ) : Type 0 where
-  pub place_is : place ≡ if_below (length starts) (first_repeat starts ends)
+pub record Found (starts ends : List ℕ) (place count : ℕ) : Type 0 where
+  pub place_is : place ≡ first_repeat starts ends
   pub count_is : count ≡ tried_of starts ends

@@ -5,19 +5,19 @@ use Rattle.validity.proofs.Checks.{cycle_own, free_passes, fit_inside}
 use Rattle.validity.proofs.Repeats.{tried_all, repeat_refused, repeat_passed}
 use Rattle.validity.proofs.check_edges.Goals as goal
 
-pub returns-in-Some : goal.returns-in-Some
-returns-in-Some c = repeat_refused c.find_repeat-found.ensures.found _ c.in-Some.is c.refuse.ensures
+pub returns-then-found-lists : goal.returns-then-found-lists
+returns-then-found-lists c = repeat_refused c.find_repeat-found.ensures.found _ c.if-found-lists.true c.refuse.ensures
 
 pub returns-then-rises : goal.returns-then-rises
-returns-then-rises c = repeat_passed c.find_repeat-found.ensures.found _ c.in_default.is (free_passes c.args.lists.fits (c.rises-rises.ensures c.if-rises.true))
+returns-then-rises c = repeat_passed c.find_repeat-found.ensures.found _ c.if-found-lists.false (free_passes c.args.lists.fits (c.rises-rises.ensures c.if-rises.true))
 
 pub find_cycle-v-requires : goal.find_cycle-v-requires
 find_cycle-v-requires c = let F = c.args.lists.fits in
     record {
-      marked = marked_end _ (omega (arith, tried_all c.find_repeat-found.ensures.found c.in_default.is)) (c.find_repeat-found.ensures.marked (ap not c.if-rises.false));
+      marked = marked_end _ (omega (arith, tried_all c.find_repeat-found.ensures.found c.if-found-lists.false)) (c.find_repeat-found.ensures.marked (ap not c.if-rises.false));
       inside = fit_inside F;
       g_bound = F.few;
     }
 
 pub returns : goal.returns
-returns c = repeat_passed c.find_repeat-found.ensures.found _ c.in_default.is (c.refuse_at.ensures _ _ c.find_cycle-v.ensures ∙ cycle_own c.args.lists.fits)
+returns c = repeat_passed c.find_repeat-found.ensures.found _ c.if-found-lists.false (c.refuse_at.ensures _ _ c.find_cycle-v.ensures ∙ cycle_own c.args.lists.fits)

@@ -7,7 +7,6 @@ use Rattle.folds.proofs.Lists.{get_d_zeros, length-zeros}
 use Rattle.folds.proofs.Searches.{first_to_zero, first_to_more, first_to_at, first_to_end}
 use Rattle.validity.specs.Repeat.{tried}
 use Rattle.cycle_test.proofs.Thins.{marked_none, marked_next}
-use Rattle.validity.proofs.Checks.{first_some, first_none}
 use Rattle.validity.proofs.Repeats.{bits_none, tries_next}
 use Rattle.validity.proofs.first_repeat.Goals as goal
 
@@ -34,7 +33,7 @@ returns-then-try_edge g c =
     let hit = sym c.try_edge.ensures.value ∙ c.if-try_edge.true in
     let e = first_to_at _ _ _ c.loop-j.invariant.none hit c.loop-j-test.true in
     record {
-      found = record { place_is = first_some _ _ _ c.loop-j.invariant.none hit c.loop-j-test.true; count_is = rw (← e, lt-ltb _ _ c.loop-j-test.true) refl };
+      found = record { place_is = e; count_is = rw (← e, lt-ltb _ _ c.loop-j-test.true) refl };
       marked = λ w. rw (c.note.ensures w) (marked_next _ refl low (c.loop-j.invariant.marked w));
     }
 
@@ -55,6 +54,6 @@ returns g c =
     let end = c.loop-j.auto.j-end in
     let e = first_to_end _ _ _ c.loop-j.invariant.none end c.loop-j-test.false in
     record {
-      found = record { place_is = first_none _ _ _ c.loop-j.invariant.none end c.loop-j-test.false; count_is = rw (← e, le-ltb _ _ c.loop-j-test.false) (omega arith) };
+      found = record { place_is = omega (arith, e); count_is = rw (← e, le-ltb _ _ c.loop-j-test.false) (omega arith) };
       marked = λ w. let q : c.loop-j.j ≡ length c.args.starts.now = omega arith in rw q at (c.loop-j.invariant.marked w);
     }
