@@ -15,6 +15,14 @@ pub mod tables;
 // The writer of answers: lines into a buffer that the caller lends, or nothing where it is too short. What it answers is the
 // number of bytes written; `None` is document 01's refusal 4 at place 0.
 
+// The lines of a table's entries: the word that each begins with, and the entries.
+#[derive(Clone, Copy)]
+struct EntryLines<'a> {
+    word: &'a [u8],
+    entries: &'a [u16],
+    ghost short: { length word.now ≤ 16 },
+}
+
 // The words of each line with what may stand after them; the end is the same of all.
 fn split_fields() -> [Field<'static>; 4]
     ensures { fields_in result ≡ split_form.fields }
@@ -48,64 +56,65 @@ fn refusal_fields() -> [Field<'static>; 2]
     ]
 }
 
-// How many bytes the line of an entry takes.
-fn entry_length(word: &[u8], n: usize, entry: u16) -> usize
-    requires { length word.now ≤ 16 }
-    ensures { result ≡ needs (entry_form word.now) (n ∷ entry ∷ []) }
-{
-    line_forms::needs(&entry_fields(word), &[n, usize::from(entry)], b"))\n")
-}
+impl EntryLines<'_> {
+    // How many bytes the line of an entry takes.
+    fn length_at(self, n: usize, entry: u16) -> usize
+        ensures { result ≡ needs (entry_form self.entry.word.now) (n ∷ entry ∷ []) }
+    {
+        line_forms::needs(&entry_fields(self.word), &[n, usize::from(entry)], b"))\n")
+    }
 
-// What the lines of a table's entries leave of so many bytes, if they fit.
-fn entries_room(size: usize, word: &[u8], entries: &[u16]) -> Option<usize>
-    requires { length word.now ≤ 16 }
-    ensures { RoomIs size (needs_all (entry_form word.now) (enumerated 0 entries.now)) result }
-{
-    let mut left = size;
-    for (n, entry) in entries.iter().enumerate() {
-        let need = entry_length(word, n, *entry);
-        if left < need {
-            return None;
+    // What the lines leave of so many bytes, if they fit.
+    fn room_left(self, size: usize) -> Option<usize>
+        ensures { RoomIs size (needs_all (entry_form self.entry.word.now) (enumerated 0 self.entry.entries.now)) result }
+    {
+        let mut left = size;
+        for (n, entry) in self.entries.iter().enumerate() {
+            let need = self.length_at(n, *entry);
+            if left < need {
+                return None;
+            }
+            left -= need;
         }
-        left -= need;
+        Some(left)
     }
-    Some(left)
-}
 
-// stays: the place goes beside the buffer, as in `decimal::show`.
-fn put_entry(buf: &mut [u8], at: usize, word: &[u8], n: usize, entry: u16) -> usize
-    requires { at + length (printed (entry_form word.now) (n ∷ entry ∷ [])) ≤ length buf.old }
-    ensures { Puts buf.old at (printed (entry_form word.now) (n ∷ entry ∷ [])) buf.new result }
-{
-    line_forms::put(
-        buf,
-        at,
-        &entry_fields(word),
-        &[n, usize::from(entry)],
-        b"))\n",
-    )
-}
-
-fn put_entries(buf: &mut [u8], at: usize, word: &[u8], entries: &[u16]) -> usize
-    requires { at + length (printed_all (entry_form word.now) (enumerated 0 entries.now)) ≤ length buf.old }
-    ensures { Puts buf.old at (printed_all (entry_form word.now) (enumerated 0 entries.now)) buf.new result }
-{
-    let mut i = at;
-    for (n, entry) in entries.iter().enumerate() {
-        i = put_entry(buf, i, word, n, *entry);
+    // Whether a head line and the lines are more than fits.
+    fn is_over(self, size: usize, head: usize) -> bool
+        ensures { result ≡ ltb size (head + needs_all (entry_form self.entry.word.now) (enumerated 0 self.entry.entries.now)) }
+    {
+        if size < head {
+            return true;
+        }
+        self.room_left(size - head).is_none()
     }
-    i
-}
 
-// Whether a head line and the lines of a table are more than fits.
-fn table_over(size: usize, head: usize, word: &[u8], entries: &[u16]) -> bool
-    requires { length word.now ≤ 16 }
-    ensures { result ≡ ltb size (head + needs_all (entry_form word.now) (enumerated 0 entries.now)) }
-{
-    if size < head {
-        return true;
+    // Writes the line of an entry.
+    // stays: the place goes beside the buffer, here and below, as in `decimal::show`.
+    fn put_at(self, buf: &mut [u8], at: usize, n: usize, entry: u16) -> usize
+        requires { at + length (printed (entry_form self.word.now) (n ∷ entry ∷ [])) ≤ length buf.old }
+        ensures { Puts buf.old at (printed (entry_form self.entry.word.now) (n ∷ entry ∷ [])) buf.new result }
+    {
+        line_forms::put(
+            buf,
+            at,
+            &entry_fields(self.word),
+            &[n, usize::from(entry)],
+            b"))\n",
+        )
     }
-    entries_room(size - head, word, entries).is_none()
+
+    // Writes the lines.
+    fn put(self, buf: &mut [u8], at: usize) -> usize
+        requires { at + length (printed_all (entry_form self.word.now) (enumerated 0 self.entries.now)) ≤ length buf.old }
+        ensures { Puts buf.old at (printed_all (entry_form self.entry.word.now) (enumerated 0 self.entry.entries.now)) buf.new result }
+    {
+        let mut i = at;
+        for (n, entry) in self.entries.iter().enumerate() {
+            i = self.put_at(buf, i, n, *entry);
+        }
+        i
+    }
 }
 
 // A head line of some figures, and a line for each entry.
@@ -113,20 +122,18 @@ fn write_table(
     buf: &mut [u8],
     fields: &[Field<'_>],
     figures: &[usize],
-    word: &[u8],
-    entries: &[u16],
+    lines: EntryLines<'_>,
 ) -> Option<usize>
-    requires short { length word.now ≤ 16 }
-    requires few { needs (headed (fields_in fields.now)) figures.now < 2 ^ 64 }
-    ensures result_value { outcome result ≡ writing (table_text (headed (fields_in fields.now)) figures.now word.now entries.now) buf.old }
-    ensures buf_after { buf.new ≡ written (table_text (headed (fields_in fields.now)) figures.now word.now entries.now) buf.old }
+    requires { needs (headed (fields_in fields.now)) figures.now < 2 ^ 64 }
+    ensures result_value { outcome result ≡ writing (table_text (headed (fields_in fields.now)) figures.now lines.entry.word.now lines.entry.entries.now) buf.old }
+    ensures buf_after { buf.new ≡ written (table_text (headed (fields_in fields.now)) figures.now lines.entry.word.now lines.entry.entries.now) buf.old }
 {
     let head = line_forms::needs(fields, figures, b"))\n");
-    if table_over(buf.len(), head, word, entries) {
+    if lines.is_over(buf.len(), head) {
         return None;
     }
     let i = line_forms::put(buf, 0, fields, figures, b"))\n");
-    Some(put_entries(buf, i, word, entries))
+    Some(lines.put(buf, i))
 }
 
 // The lines that the splitting program prints.
@@ -141,13 +148,11 @@ pub fn write_split(
     ensures result_value { outcome result ≡ writing (split_text cut rungs cutat moves parts.now) buf.old }
     ensures buf_after { buf.new ≡ written (split_text cut rungs cutat moves parts.now) buf.old }
 {
-    write_table(
-        buf,
-        &split_fields(),
-        &[cut, rungs, cutat, moves],
-        b"(block ",
-        parts,
-    )
+    let lines = EntryLines {
+        word: b"(block ",
+        entries: parts,
+    };
+    write_table(buf, &split_fields(), &[cut, rungs, cutat, moves], lines)
 }
 
 // The lines of a start order that inspection gives.
@@ -155,7 +160,11 @@ pub fn write_order(buf: &mut [u8], cut: usize, order: &[u16]) -> Option<usize>
     ensures result_value { outcome result ≡ writing (order_text cut order.now) buf.old }
     ensures buf_after { buf.new ≡ written (order_text cut order.now) buf.old }
 {
-    write_table(buf, &order_fields(), &[cut], b"(start ", order)
+    let lines = EntryLines {
+        word: b"(start ",
+        entries: order,
+    };
+    write_table(buf, &order_fields(), &[cut], lines)
 }
 
 // The refusal line.

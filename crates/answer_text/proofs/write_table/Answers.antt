@@ -7,24 +7,24 @@ use Rattle.answer_text.proofs.write_table.Goals as goal
 
 pub needs-head-requires : goal.needs-head-requires
 unfolding needs
-needs-head-requires c = c.requires.few
+needs-head-requires c = c.requires
 
-pub returns-then-table_over : goal.returns-then-table_over
+pub returns-then-is_over : goal.returns-then-is_over
 unfolding needs
-returns-then-table_over c =
-    let t = table_short (headed (fields_in c.args.fields.now)) c.args.figures.now c.args.word.now c.args.entries.now c.args.buf.now (over_told _ _ _ _ c.table_over.ensures c.needs-head.ensures c.if-table_over.true) in
+returns-then-is_over c =
+    let t = table_short (headed (fields_in c.args.fields.now)) c.args.figures.now c.args.lines.word.now c.args.lines.entries.now c.args.buf.now (over_told _ _ _ _ c.is_over.ensures c.needs-head.ensures c.if-is_over.true) in
     record { result_value = t.0; buf_after = t.1 }
 
 pub put-i-requires : goal.put-i-requires
 unfolding needs printed
-put-i-requires c = head_room (headed (fields_in c.args.fields.now)) c.args.figures.now c.args.word.now c.args.entries.now c.args.buf.now (over_told _ _ _ _ c.table_over.ensures c.needs-head.ensures c.if-table_over.false)
+put-i-requires c = head_room (headed (fields_in c.args.fields.now)) c.args.figures.now c.args.lines.word.now c.args.lines.entries.now c.args.buf.now (over_told _ _ _ _ c.is_over.ensures c.needs-head.ensures c.if-is_over.false)
 
-pub put_entries-requires : goal.put_entries-requires
+pub put-requires : goal.put-requires
 unfolding needs printed
-put_entries-requires c = rest_room (headed (fields_in c.args.fields.now)) c.args.figures.now c.args.word.now c.args.entries.now c.args.buf.now (over_told _ _ _ _ c.table_over.ensures c.needs-head.ensures c.if-table_over.false) c.put-i.ensures
+put-requires c = rest_room (headed (fields_in c.args.fields.now)) c.args.figures.now c.args.lines.word.now c.args.lines.entries.now c.args.buf.now (over_told _ _ _ _ c.is_over.ensures c.needs-head.ensures c.if-is_over.false) c.put-i.ensures
 
 pub returns : goal.returns
 unfolding needs printed
 returns c =
-    let t = table_written_lem (headed (fields_in c.args.fields.now)) c.args.figures.now c.args.word.now c.args.entries.now c.args.buf.now (over_told _ _ _ _ c.table_over.ensures c.needs-head.ensures c.if-table_over.false) c.put-i.ensures c.put_entries.ensures in
+    let t = table_written_lem (headed (fields_in c.args.fields.now)) c.args.figures.now c.args.lines.word.now c.args.lines.entries.now c.args.buf.now (over_told _ _ _ _ c.is_over.ensures c.needs-head.ensures c.if-is_over.false) c.put-i.ensures c.put.ensures in
     record { result_value = t.0; buf_after = t.1 }

@@ -2,11 +2,11 @@
 use Rattle.std.proofs.Common.{arith, refl, ◌∙◌}
 use Rattle.line_forms.specs.Form.{needs}
 use Rattle.answer_text.proofs.Buffer.{entry_low}
-use Rattle.answer_text.proofs.entry_length.Goals as goal
+use Rattle.answer_text.proofs.EntryLines.length_at.Goals as goal
 
 pub needs-requires : goal.needs-requires
 unfolding needs
-needs-requires c = rw c.entry_fields.ensures (entry_low c.args.word.now _ _ c.requires (omega arith) (omega arith))
+needs-requires c = rw c.entry_fields.ensures (entry_low c.args.self.word.now _ _ c.args.self.short (omega arith) (omega arith))
 
 pub returns : goal.returns
 unfolding needs

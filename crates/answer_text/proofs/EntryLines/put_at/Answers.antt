@@ -1,6 +1,6 @@
 -- What the line's form says, at the entry as a number.
 use Rattle.line_forms.specs.Form.{printed}
-use Rattle.answer_text.proofs.put_entry.Goals as goal
+use Rattle.answer_text.proofs.EntryLines.put_at.Goals as goal
 
 pub put-requires : goal.put-requires
 unfolding printed

@@ -1,14 +1,14 @@
 use Rattle.answer_text.proofs.Entries.{putting_start, putting_room, putting_turn, putting_end}
-use Rattle.answer_text.proofs.put_entries.Goals as goal
+use Rattle.answer_text.proofs.EntryLines.put.Goals as goal
 
 pub loop-n-init : goal.loop-n-init
 loop-n-init c = putting_start _ _ _ _
 
-pub put_entry-i-requires : goal.put_entry-i-requires
-put_entry-i-requires c = putting_room _ _ c.loop-n.invariant c.requires c.loop-n-test.true
+pub put_at-i-requires : goal.put_at-i-requires
+put_at-i-requires c = putting_room _ _ c.loop-n.invariant c.requires c.loop-n-test.true
 
 pub loop-n-preserved : goal.loop-n-preserved
-loop-n-preserved c = putting_turn _ _ c.loop-n.invariant c.requires c.loop-n-test.true c.put_entry-i.ensures
+loop-n-preserved c = putting_turn _ _ c.loop-n.invariant c.requires c.loop-n-test.true c.put_at-i.ensures
 
 pub returns : goal.returns
 returns c = putting_end _ _ c.loop-n.invariant c.requires c.loop-n-test.false
