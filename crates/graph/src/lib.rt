@@ -71,14 +71,43 @@ impl EdgeLinks<'_, '_> {
 }
 
 // What is kept of each row: its joined edges, from r × m on for row r, `sizes` of them, and the topological order of its clusters, from r × n on.
-// stays: lists of fixed size, and how much of each is used: no heap, so that the rows lie end to end.
+// stays: lists that are lent for all rows, and how much of each is used: no heap, so that the rows lie end to end.
 #[derive(Drop)]
 pub struct RowStore<'a> {
     pub froms: &'a mut [u16],
     pub tos: &'a mut [u16],
     pub wides: &'a mut [u32],
     pub sizes: [u16; 9],
-    pub orders: [u16; 4608],
+    pub orders: &'a mut [u16],
+}
+
+// What is kept of each row, as it is lent to those who only read it.
+#[derive(Clone, Copy)]
+pub struct StoredRows<'a> {
+    pub froms: &'a [u16],
+    pub tos: &'a [u16],
+    pub wides: &'a [u32],
+    pub sizes: &'a [u16; 9],
+    pub orders: &'a [u16],
+}
+
+impl RowStore<'_> {
+    // All that is kept, to read.
+    pub fn view(&self) -> StoredRows<'_>
+        ensures froms { result.froms.now ≡ self.now.froms.now }
+        ensures tos { result.tos.now ≡ self.now.tos.now }
+        ensures wides { result.wides.now ≡ self.now.wides.now }
+        ensures sizes { result.sizes.now ≡ self.now.sizes }
+        ensures orders { result.orders.now ≡ self.now.orders.now }
+    {
+        StoredRows {
+            froms: self.froms,
+            tos: self.tos,
+            wides: self.wides,
+            sizes: &self.sizes,
+            orders: self.orders,
+        }
+    }
 }
 
 // Row 0: each entry becomes its own index, so that each vertex is its own cluster.
