@@ -7,7 +7,7 @@ ghost use Rattle.graph.specs.Graph.{arcs};
 ghost use Rattle.joined_edges.specs.Joining.{Written};
 ghost use Rattle.row_lists.specs.Carry.{Between, Maps, First, Next, Merged};
 
-use graph::{Lists, RowStore};
+use graph::{Lists, RowStore, StoredRows};
 use joined_edges::{Joined, RowEdges};
 
 // The new number, one of `after`, of each of the `before` clusters of a row.
@@ -43,7 +43,7 @@ pub fn first(lists: Lists<'_>, store: &mut RowStore<'_>)
     requires starts_len_bound { (length lists.starts.now ≤ 1024) × (length lists.ends.now ≡ length lists.starts.now) × (length lists.widths.now ≡ length lists.starts.now) }
     requires starts_in_bounds { (length lists.starts.now ≤ length store.old.froms.now) × (length lists.starts.now ≤ length store.old.tos.now) × (length lists.starts.now ≤ length store.old.wides.now) }
     ensures first { First lists.entry.starts.now lists.entry.ends.now lists.entry.widths.now store.old.froms.now store.old.tos.now store.old.wides.now store.old.sizes store.new.froms.now store.new.tos.now store.new.wides.now store.new.sizes }
-    ensures orders { store.new.orders ≡ store.old.orders }
+    ensures orders { store.new.orders.now ≡ store.old.orders.now }
     ensures narrow { (j : ℕ) → get_or lists.entry.widths.now j 0 ≤ 65535 }
 {
     let m = lists.starts.len();
@@ -68,12 +68,12 @@ fn join_part<'x>(
     names: Renaming<'x>,
     a: usize,
     size: usize,
-    store: &'x RowStore<'_>,
+    store: StoredRows<'x>,
     joined: &mut Joined,
 )
-    requires between { Between names.before (part store.now.froms.now a size) (part store.now.tos.now a size) (part store.now.wides.now a size) }
-    requires size_bound { (a + size ≤ length store.now.froms.now) × (a + size ≤ length store.now.tos.now) × (a + size ≤ length store.now.wides.now) }
-    ensures { Written (arcs (take names.entry.before names.entry.map.now) (part store.now.froms.now a size) (part store.now.tos.now a size)) (part store.now.wides.now a size) names.entry.after names.entry.after joined.new.count joined.new.froms joined.new.tos joined.new.widths }
+    requires between { Between names.before (part store.froms.now a size) (part store.tos.now a size) (part store.wides.now a size) }
+    requires size_bound { (a + size ≤ length store.froms.now) × (a + size ≤ length store.tos.now) × (a + size ≤ length store.wides.now) }
+    ensures { Written (arcs (take names.entry.before names.entry.map.now) (part store.entry.froms.now a size) (part store.entry.tos.now a size)) (part store.entry.wides.now a size) names.entry.after names.entry.after joined.new.count joined.new.froms joined.new.tos joined.new.widths }
 {
     let e = a + size;
     let map = names.map;
@@ -98,7 +98,7 @@ pub fn carry(
     requires size_bound { (a + size ≤ b) × (b + size ≤ length store.old.froms.now) × (b + size ≤ length store.old.tos.now) × (b + size ≤ length store.old.wides.now) }
     ensures next { Next names.entry.map.now names.entry.before names.entry.after a size b store.old.froms.now store.old.tos.now store.old.wides.now store.new.froms.now store.new.tos.now store.new.wides.now result }
     ensures sizes { store.new.sizes ≡ store.old.sizes }
-    ensures orders { store.new.orders ≡ store.old.orders }
+    ensures orders { store.new.orders.now ≡ store.old.orders.now }
 {
     let mut joined = Joined {
         froms: [0; 1024],
@@ -106,7 +106,7 @@ pub fn carry(
         widths: [0; 1024],
         count: 0,
     };
-    join_part(names, a, size, store, &mut joined);
+    join_part(names, a, size, store.view(), &mut joined);
     let count = joined.count;
     copy(&joined.froms[..count], store.froms, b);
     copy(&joined.tos[..count], store.tos, b);
