@@ -84,8 +84,8 @@ fn join_at<'x>(
     g: usize,
 ) -> Option<usize>
     requires round_ready { RoundReady (graph_in plan.problem.lists) (rows_in rows.old (length plan.problem.lists.costs.now) r) g × Layer (graph_in plan.problem.lists) (rows_in rows.old (length plan.problem.lists.costs.now) r) }
-    requires carrying { Carrying (graph_in plan.problem.lists) rows.old r g store.now.froms.now store.now.tos.now store.now.wides.now store.now.sizes store.now.orders last.now.weights }
-    requires rows_room { RowsRoom (graph_in plan.problem.lists) rows.old store.now.froms.now store.now.tos.now store.now.wides.now store.now.sizes store.now.orders }
+    requires carrying { Carrying (graph_in plan.problem.lists) rows.old r g store.now.froms.now store.now.tos.now store.now.wides.now store.now.sizes store.now.orders.now last.now.weights }
+    requires rows_room { RowsRoom (graph_in plan.problem.lists) rows.old store.now.froms.now store.now.tos.now store.now.wides.now store.now.sizes store.now.orders.now }
     requires r_bound { (r < 8) × (g ≤ length plan.problem.lists.costs.now) × LinkedAt (length plan.problem.lists.starts.now) r store.now.froms.now store.now.tos.now store.now.sizes last.now.links.now.head last.now.links.now.next × LevelsAt (length plan.problem.lists.starts.now) r g store.now.froms.now store.now.tos.now store.now.sizes last.now.levels.now }
     ensures { JoinsRow (graph_in plan.entry.problem.lists) plan.entry.problem.k plan.entry.problem.bound r rows.old rows.new map.new result }
 {
@@ -156,8 +156,8 @@ fn hand_on(
     last: &mut Last<'_>,
 )
     requires names_few { names.after ≤ n }
-    requires hands_on { HandsOn n m r names.before store.old.froms.now store.old.tos.now store.old.wides.now store.old.sizes store.old.orders last.old.weights }
-    ensures handed_on { HandedOn names.entry.map.now n m r names.entry.before names.entry.after store.old.froms.now store.old.tos.now store.old.wides.now store.old.sizes store.old.orders last.old.weights store.new.froms.now store.new.tos.now store.new.wides.now store.new.sizes store.new.orders last.new.weights last.new.levels.now }
+    requires hands_on { HandsOn n m r names.before store.old.froms.now store.old.tos.now store.old.wides.now store.old.sizes store.old.orders.now last.old.weights }
+    ensures handed_on { HandedOn names.entry.map.now n m r names.entry.before names.entry.after store.old.froms.now store.old.tos.now store.old.wides.now store.old.sizes store.old.orders.now last.old.weights store.new.froms.now store.new.tos.now store.new.wides.now store.new.sizes store.new.orders.now last.new.weights last.new.levels.now }
     ensures linked_at { LinkedAt m (r + 1) store.new.froms.now store.new.tos.now store.new.sizes last.new.links.now.head last.new.links.now.next }
     ensures same_links { last.new.links.ghost_name ≡ last.old.links.ghost_name }
 {
@@ -190,11 +190,11 @@ fn step(
     g: usize,
 ) -> Option<usize>
     requires round_ready { RoundReady (graph_in plan.problem.lists) (rows_in rows.old (length plan.problem.lists.costs.now) r) g × Layer (graph_in plan.problem.lists) (rows_in rows.old (length plan.problem.lists.costs.now) r) }
-    requires carrying { Carrying (graph_in plan.problem.lists) rows.old r g store.old.froms.now store.old.tos.now store.old.wides.now store.old.sizes store.old.orders last.old.weights }
-    requires rows_room { RowsRoom (graph_in plan.problem.lists) rows.old store.old.froms.now store.old.tos.now store.old.wides.now store.old.sizes store.old.orders }
+    requires carrying { Carrying (graph_in plan.problem.lists) rows.old r g store.old.froms.now store.old.tos.now store.old.wides.now store.old.sizes store.old.orders.now last.old.weights }
+    requires rows_room { RowsRoom (graph_in plan.problem.lists) rows.old store.old.froms.now store.old.tos.now store.old.wides.now store.old.sizes store.old.orders.now }
     requires r_bound { (r < 8) × (g ≤ length plan.problem.lists.costs.now) × LinkedAt (length plan.problem.lists.starts.now) r store.old.froms.now store.old.tos.now store.old.sizes last.old.links.now.head last.old.links.now.next × LevelsAt (length plan.problem.lists.starts.now) r g store.old.froms.now store.old.tos.now store.old.sizes last.old.levels.now }
-    ensures steps { Steps (graph_in plan.entry.problem.lists) plan.entry.problem.k plan.entry.problem.bound r rows.old rows.new store.new.froms.now store.new.tos.now store.new.wides.now store.new.sizes store.new.orders last.new.weights last.new.links.now.head last.new.links.now.next last.new.levels.now result }
-    ensures rows_room_2 { RowsRoom (graph_in plan.entry.problem.lists) rows.new store.new.froms.now store.new.tos.now store.new.wides.now store.new.sizes store.new.orders }
+    ensures steps { Steps (graph_in plan.entry.problem.lists) plan.entry.problem.k plan.entry.problem.bound r rows.old rows.new store.new.froms.now store.new.tos.now store.new.wides.now store.new.sizes store.new.orders.now last.new.weights last.new.links.now.head last.new.links.now.next last.new.levels.now result }
+    ensures rows_room_2 { RowsRoom (graph_in plan.entry.problem.lists) rows.new store.new.froms.now store.new.tos.now store.new.wides.now store.new.sizes store.new.orders.now }
     ensures same_links { last.new.links.ghost_name ≡ last.old.links.ghost_name }
 {
     let mut map = [0; 512];
@@ -223,12 +223,12 @@ fn join_rows(
     last: &mut Last<'_>,
 ) -> usize
     requires buildable { Buildable (graph_in plan.problem.lists) plan.problem.k }
-    requires rows_room { RowsRoom (graph_in plan.problem.lists) rows.old store.old.froms.now store.old.tos.now store.old.wides.now store.old.sizes store.old.orders }
+    requires rows_room { RowsRoom (graph_in plan.problem.lists) rows.old store.old.froms.now store.old.tos.now store.old.wides.now store.old.sizes store.old.orders.now }
     requires costs_value { rows_in rows.old (length plan.problem.lists.costs.now) 0 ≡ identity (length plan.problem.lists.costs.now) }
-    requires carrying { Carrying (graph_in plan.problem.lists) rows.old 0 (length plan.problem.lists.costs.now) store.old.froms.now store.old.tos.now store.old.wides.now store.old.sizes store.old.orders last.old.weights }
+    requires carrying { Carrying (graph_in plan.problem.lists) rows.old 0 (length plan.problem.lists.costs.now) store.old.froms.now store.old.tos.now store.old.wides.now store.old.sizes store.old.orders.now last.old.weights }
     requires linked_at { LinkedAt (length plan.problem.lists.starts.now) 0 store.old.froms.now store.old.tos.now store.old.sizes last.old.links.now.head last.old.links.now.next × LevelsAt (length plan.problem.lists.starts.now) 0 (length plan.problem.lists.costs.now) store.old.froms.now store.old.tos.now store.old.sizes last.old.levels.now }
     ensures built { Built (graph_in plan.entry.problem.lists) plan.entry.problem.k plan.entry.problem.bound rows.old rows.new result }
-    ensures carried_2 { Carried (graph_in plan.entry.problem.lists) (rows_in rows.new (length plan.entry.problem.lists.costs.now)) result store.new.froms.now store.new.tos.now store.new.wides.now store.new.sizes store.new.orders }
+    ensures carried_2 { Carried (graph_in plan.entry.problem.lists) (rows_in rows.new (length plan.entry.problem.lists.costs.now)) result store.new.froms.now store.new.tos.now store.new.wides.now store.new.sizes store.new.orders.now }
     ensures linked_at_2 { LinkedAt (length plan.entry.problem.lists.starts.now) result store.new.froms.now store.new.tos.now store.new.sizes last.new.links.now.head last.new.links.now.next }
     ensures same_links { last.new.links.ghost_name ≡ last.old.links.ghost_name }
 {
@@ -253,18 +253,18 @@ pub fn build<'x>(
     store: &mut RowStore<'_>,
 ) -> usize
     requires buildable { Buildable (graph_in problem.lists) problem.k }
-    requires rows_room { RowsRoom (graph_in problem.lists) rows.old store.old.froms.now store.old.tos.now store.old.wides.now store.old.sizes store.old.orders }
+    requires rows_room { RowsRoom (graph_in problem.lists) rows.old store.old.froms.now store.old.tos.now store.old.wides.now store.old.sizes store.old.orders.now }
     requires order_value { take (length problem.lists.costs.now) order.now ≡ order_of (arcs (identity (length problem.lists.costs.now)) problem.lists.starts.now problem.lists.ends.now) (length problem.lists.costs.now) }
     requires linked { Linked (leave (joining problem.lists.starts.now problem.lists.ends.now)) (length problem.lists.starts.now) links.old.head links.old.next }
     requires levels_value { levels.old ≡ over (levels_of (arcs (identity (length problem.lists.costs.now)) problem.lists.starts.now problem.lists.ends.now) (length problem.lists.costs.now)) (zeros 512) }
     ensures built { Built (graph_in problem.entry.lists) problem.entry.k problem.entry.bound rows.old rows.new result }
-    ensures carried { Carried (graph_in problem.entry.lists) (rows_in rows.new (length problem.entry.lists.costs.now)) result store.new.froms.now store.new.tos.now store.new.wides.now store.new.sizes store.new.orders }
+    ensures carried { Carried (graph_in problem.entry.lists) (rows_in rows.new (length problem.entry.lists.costs.now)) result store.new.froms.now store.new.tos.now store.new.wides.now store.new.sizes store.new.orders.now }
     ensures linked_at { LinkedAt (length problem.entry.lists.starts.now) result store.new.froms.now store.new.tos.now store.new.sizes links.new.head links.new.next }
 {
     let lists = problem.lists;
     let n = lists.costs.len();
     graph::number_entries(&mut rows[0..n]);
-    row_lists::copy(&order[..n], &mut store.orders, 0);
+    row_lists::copy(&order[..n], store.orders, 0);
     row_lists::first(lists, store);
     let mut last = Last {
         links,

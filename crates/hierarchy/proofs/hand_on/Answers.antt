@@ -33,14 +33,14 @@ pub overflow_add-c-2 : goal.overflow_add-c-2
 overflow_add-c-2 c = end_fits c.args.r c.args.n c.args.n c.args.n c.requires.hands_on.row ((few_more c.args.n c.requires.hands_on.vertices_few)) (le_self _) (le_self _)
 
 pub slice_bounds-order_row-end : goal.slice_bounds-order_row-end
-slice_bounds-order_row-end c = let q = (rows_in_lem c.args.r c.args.n (length c.args.store.now.orders) c.requires.hands_on.row c.requires.hands_on.order_room) in search rules
+slice_bounds-order_row-end c = let q = (rows_in_lem c.args.r c.args.n (length c.args.store.now.orders.now) c.requires.hands_on.row c.requires.hands_on.order_room) in search rules
 
 pub order_row-requires : goal.order_row-requires
 order_row-requires c = let place = c.args.r * c.args.n + c.args.n in
     record {
       ended = next_ended c.args.names.maps.low c.carry-count.ensures.next (next_room c.args.r c.args.m c.requires.hands_on.row (few_by c.from-size.ensures c.requires.hands_on.few) c.requires.hands_on.from_room) (next_room c.args.r c.args.m c.requires.hands_on.row (few_by c.from-size.ensures c.requires.hands_on.few) c.requires.hands_on.to_room);
       inside = next_inside c.args.names.maps.low c.carry-count.ensures.next (next_room c.args.r c.args.m c.requires.hands_on.row (few_by c.from-size.ensures c.requires.hands_on.few) c.requires.hands_on.from_room) (next_room c.args.r c.args.m c.requires.hands_on.row (few_by c.from-size.ensures c.requires.hands_on.few) c.requires.hands_on.to_room);
-      bounds = (from_fits c.args.names.maps.low c.carry-count.ensures.next (next_room c.args.r c.args.m c.requires.hands_on.row (few_by c.from-size.ensures c.requires.hands_on.few) c.requires.hands_on.from_room) (next_room c.args.r c.args.m c.requires.hands_on.row (few_by c.from-size.ensures c.requires.hands_on.few) c.requires.hands_on.to_room), to_fits c.args.names.maps.low c.carry-count.ensures.next (next_room c.args.r c.args.m c.requires.hands_on.row (few_by c.from-size.ensures c.requires.hands_on.few) c.requires.hands_on.from_room) (next_room c.args.r c.args.m c.requires.hands_on.row (few_by c.from-size.ensures c.requires.hands_on.few) c.requires.hands_on.to_room), c.args.names.maps.low, rw (c.carry-count.ensures.orders, handed c.args.store.now.orders place c.args.n, length_part c.args.store.now.orders place c.args.n (rows_in_lem c.args.r c.args.n (length c.args.store.now.orders) c.requires.hands_on.row c.requires.hands_on.order_room)) c.requires.names_few);
+      bounds = (from_fits c.args.names.maps.low c.carry-count.ensures.next (next_room c.args.r c.args.m c.requires.hands_on.row (few_by c.from-size.ensures c.requires.hands_on.few) c.requires.hands_on.from_room) (next_room c.args.r c.args.m c.requires.hands_on.row (few_by c.from-size.ensures c.requires.hands_on.few) c.requires.hands_on.to_room), to_fits c.args.names.maps.low c.carry-count.ensures.next (next_room c.args.r c.args.m c.requires.hands_on.row (few_by c.from-size.ensures c.requires.hands_on.few) c.requires.hands_on.from_room) (next_room c.args.r c.args.m c.requires.hands_on.row (few_by c.from-size.ensures c.requires.hands_on.few) c.requires.hands_on.to_room), c.args.names.maps.low, rw (c.carry-count.ensures.orders, handed c.args.store.now.orders.now place c.args.n, length_part c.args.store.now.orders.now place c.args.n (rows_in_lem c.args.r c.args.n (length c.args.store.now.orders.now) c.requires.hands_on.row c.requires.hands_on.order_room)) c.requires.names_few);
     }
 
 pub returns : goal.returns

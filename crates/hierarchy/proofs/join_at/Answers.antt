@@ -26,7 +26,7 @@ invariant_of-scan c =
     let S = simple_handed c.requires.round_ready.0 c.requires.round_ready.1 c.requires.carrying c.requires.r_bound.1 c.from-size.ensures in record { measured = S.same; single = S.single; light = c.requires.carrying.weighed.light }
 
 pub join_row-requires : goal.join_row-requires
-join_row-requires c = let room = rows_in_lem c.args.r (length c.args.plan.problem.lists.costs.now) (length c.args.store.now.orders) c.requires.r_bound.0 c.requires.rows_room.order_room in
+join_row-requires c = let room = rows_in_lem c.args.r (length c.args.plan.problem.lists.costs.now) (length c.args.store.now.orders.now) c.requires.r_bound.0 c.requires.rows_room.order_room in
     record {
       round_ready = c.requires.round_ready.0;
       carries = carries_handed c.requires.round_ready.0 c.requires.round_ready.1 c.requires.carrying c.requires.r_bound.1 c.from-size.ensures (omega (arith, room));
