@@ -13,7 +13,7 @@ ghost use Rattle.topology.specs.Level.{levels_of};
 ghost use Rattle.matching.specs.Promises.{RoundReady};
 ghost use Rattle.hierarchy.specs.Promises.{Carries, JoinsRow, Carried, Carrying, LevelsAt, RowsRoom, Steps, HandsOn, HandedOn, Buildable, Built};
 
-use graph::{EdgeLinks, EdgeLists, LinkTable, Lists, Problem, RowStore};
+use graph::{EdgeLinks, EdgeLists, LinkTable, Lists, Problem, RowStore, StoredRows};
 use matching_scan::{Pairing, Scan};
 use row_lists::Renaming;
 
@@ -76,7 +76,7 @@ fn join_row(
 // stays: `RowsRoom` is a clause, here and below: rows and store are lent apart, and a type of both would be built for it alone.
 fn join_at<'x>(
     plan: Plan<'_>,
-    store: &'x RowStore<'_>,
+    store: StoredRows<'x>,
     last: &'x Last<'_>,
     map: &mut [u16; 512],
     rows: &mut [u16],
@@ -84,9 +84,9 @@ fn join_at<'x>(
     g: usize,
 ) -> Option<usize>
     requires round_ready { RoundReady (graph_in plan.problem.lists) (rows_in rows.old (length plan.problem.lists.costs.now) r) g × Layer (graph_in plan.problem.lists) (rows_in rows.old (length plan.problem.lists.costs.now) r) }
-    requires carrying { Carrying (graph_in plan.problem.lists) rows.old r g store.now.froms.now store.now.tos.now store.now.wides.now store.now.sizes store.now.orders.now last.now.weights }
-    requires rows_room { RowsRoom (graph_in plan.problem.lists) rows.old store.now.froms.now store.now.tos.now store.now.wides.now store.now.sizes store.now.orders.now }
-    requires r_bound { (r < 8) × (g ≤ length plan.problem.lists.costs.now) × LinkedAt (length plan.problem.lists.starts.now) r store.now.froms.now store.now.tos.now store.now.sizes last.now.links.now.head last.now.links.now.next × LevelsAt (length plan.problem.lists.starts.now) r g store.now.froms.now store.now.tos.now store.now.sizes last.now.levels.now }
+    requires carrying { Carrying (graph_in plan.problem.lists) rows.old r g store.froms.now store.tos.now store.wides.now store.sizes.now store.orders.now last.now.weights }
+    requires rows_room { RowsRoom (graph_in plan.problem.lists) rows.old store.froms.now store.tos.now store.wides.now store.sizes.now store.orders.now }
+    requires r_bound { (r < 8) × (g ≤ length plan.problem.lists.costs.now) × LinkedAt (length plan.problem.lists.starts.now) r store.froms.now store.tos.now store.sizes.now last.now.links.now.head last.now.links.now.next × LevelsAt (length plan.problem.lists.starts.now) r g store.froms.now store.tos.now store.sizes.now last.now.levels.now }
     ensures { JoinsRow (graph_in plan.entry.problem.lists) plan.entry.problem.k plan.entry.problem.bound r rows.old rows.new map.new result }
 {
     let n = plan.problem.lists.costs.len();
@@ -198,7 +198,7 @@ fn step(
     ensures same_links { last.new.links.ghost_name ≡ last.old.links.ghost_name }
 {
     let mut map = [0; 512];
-    let h = join_at(plan, store, last, &mut map, rows, r, g)?;
+    let h = join_at(plan, store.view(), last, &mut map, rows, r, g)?;
     let names = Renaming {
         map: &map,
         before: g,

@@ -7,13 +7,13 @@ use borrow.Author.Rules.{rules}
 use Rattle.hierarchy.proofs.join_at.Goals as goal
 
 pub slice_bounds-edges-end : goal.slice_bounds-edges-end
-slice_bounds-edges-end c = let q = list_fits c.args.r (length c.args.plan.problem.lists.starts.now) _ (length c.args.store.now.froms.now) c.from-size.ensures (size_few c.requires.round_ready.0 c.requires.round_ready.1 c.requires.carrying c.requires.r_bound.1) c.requires.carrying.carried.lists.from_room in search rules
+slice_bounds-edges-end c = let q = list_fits c.args.r (length c.args.plan.problem.lists.starts.now) _ (length c.args.store.froms.now) c.from-size.ensures (size_few c.requires.round_ready.0 c.requires.round_ready.1 c.requires.carrying c.requires.r_bound.1) c.requires.carrying.carried.lists.from_room in search rules
 
 pub slice_bounds-edges-end-2 : goal.slice_bounds-edges-end-2
-slice_bounds-edges-end-2 c = let q = list_fits c.args.r (length c.args.plan.problem.lists.starts.now) _ (length c.args.store.now.tos.now) c.from-size.ensures (size_few c.requires.round_ready.0 c.requires.round_ready.1 c.requires.carrying c.requires.r_bound.1) c.requires.carrying.carried.lists.to_room in search rules
+slice_bounds-edges-end-2 c = let q = list_fits c.args.r (length c.args.plan.problem.lists.starts.now) _ (length c.args.store.tos.now) c.from-size.ensures (size_few c.requires.round_ready.0 c.requires.round_ready.1 c.requires.carrying c.requires.r_bound.1) c.requires.carrying.carried.lists.to_room in search rules
 
 pub slice_bounds-scan-end : goal.slice_bounds-scan-end
-slice_bounds-scan-end c = let q = list_fits c.args.r (length c.args.plan.problem.lists.starts.now) _ (length c.args.store.now.wides.now) c.from-size.ensures (size_few c.requires.round_ready.0 c.requires.round_ready.1 c.requires.carrying c.requires.r_bound.1) c.requires.carrying.carried.lists.width_room in search rules
+slice_bounds-scan-end c = let q = list_fits c.args.r (length c.args.plan.problem.lists.starts.now) _ (length c.args.store.wides.now) c.from-size.ensures (size_few c.requires.round_ready.0 c.requires.round_ready.1 c.requires.carrying c.requires.r_bound.1) c.requires.carrying.carried.lists.width_room in search rules
 
 pub invariant_of-edges : goal.invariant_of-edges
 invariant_of-edges c = record { ended = ended_handed c.requires.round_ready.0 c.requires.round_ready.1 c.requires.carrying c.requires.r_bound.1 c.from-size.ensures }
@@ -26,7 +26,7 @@ invariant_of-scan c =
     let S = simple_handed c.requires.round_ready.0 c.requires.round_ready.1 c.requires.carrying c.requires.r_bound.1 c.from-size.ensures in record { measured = S.same; single = S.single; light = c.requires.carrying.weighed.light }
 
 pub join_row-requires : goal.join_row-requires
-join_row-requires c = let room = rows_in_lem c.args.r (length c.args.plan.problem.lists.costs.now) (length c.args.store.now.orders.now) c.requires.r_bound.0 c.requires.rows_room.order_room in
+join_row-requires c = let room = rows_in_lem c.args.r (length c.args.plan.problem.lists.costs.now) (length c.args.store.orders.now) c.requires.r_bound.0 c.requires.rows_room.order_room in
     record {
       round_ready = c.requires.round_ready.0;
       carries = carries_handed c.requires.round_ready.0 c.requires.round_ready.1 c.requires.carrying c.requires.r_bound.1 c.from-size.ensures (omega (arith, room));
