@@ -16,7 +16,7 @@ ghost use Rattle.initial.specs.Positions.{Once, Inverse};
 
 use division_scan::{Limits, PlacedEdges};
 use division_table::NO_CUT;
-use graph::{EdgeLinks, EdgeLists, LinkTable, Lists, Problem, RowStore};
+use graph::{EdgeLinks, EdgeLists, LinkTable, Lists, Problem, StoredRows};
 
 // The row that was cut, and its cut.
 #[derive(Clone, Copy)]
@@ -160,9 +160,9 @@ fn divide(
 }
 
 // The joined edges of row r: they lie in what is stored of the rows from r × m on.
-fn row_edges<'x>(store: &'x RowStore<'_>, m: usize, r: usize) -> EdgeLists<'x>
-    requires { Linkable m r store.now.froms.now store.now.tos.now store.now.sizes }
-    ensures { RowEdges m r store.now.froms.now store.now.tos.now store.now.sizes result.starts.now result.ends.now }
+fn row_edges(store: StoredRows<'_>, m: usize, r: usize) -> EdgeLists<'_>
+    requires { Linkable m r store.froms.now store.tos.now store.sizes.now }
+    ensures { RowEdges m r store.entry.froms.now store.entry.tos.now store.entry.sizes.now result.starts.now result.ends.now }
 {
     let from = r * m;
     let end = from + usize::from(store.sizes[r]);
@@ -177,17 +177,17 @@ fn row_edges<'x>(store: &'x RowStore<'_>, m: usize, r: usize) -> EdgeLists<'x>
 fn divide_at(
     problem: Problem<'_>,
     rows: &[u16],
-    store: &RowStore<'_>,
+    store: StoredRows<'_>,
     table_of: &LinkTable,
     r: usize,
     table: &mut [u16],
 ) -> Option<u32>
     requires proper { Proper (graph_in problem.lists) }
     requires layer { Layer (graph_in problem.lists) (rows_in rows.now (length problem.lists.costs.now) r) }
-    requires orders_stored { OrdersStored (graph_in problem.lists) (rows_in rows.now (length problem.lists.costs.now)) r store.now.orders }
-    requires stored { Stored (graph_in problem.lists) (rows_in rows.now (length problem.lists.costs.now)) r (length problem.lists.starts.now) store.now.froms.now store.now.tos.now store.now.wides.now store.now.sizes }
-    requires linkable { Linkable (length problem.lists.starts.now) r store.now.froms.now store.now.tos.now store.now.sizes }
-    requires linked_at { LinkedAt (length problem.lists.starts.now) r store.now.froms.now store.now.tos.now store.now.sizes table_of.now.head table_of.now.next }
+    requires orders_stored { OrdersStored (graph_in problem.lists) (rows_in rows.now (length problem.lists.costs.now)) r store.orders.now }
+    requires stored { Stored (graph_in problem.lists) (rows_in rows.now (length problem.lists.costs.now)) r (length problem.lists.starts.now) store.froms.now store.tos.now store.wides.now store.sizes.now }
+    requires linkable { Linkable (length problem.lists.starts.now) r store.froms.now store.tos.now store.sizes.now }
+    requires linked_at { LinkedAt (length problem.lists.starts.now) r store.froms.now store.tos.now store.sizes.now table_of.now.head table_of.now.next }
     requires borrowed { Borrowed (length problem.lists.costs.now) problem.k r rows.now table.old }
     ensures { DividedAs (initial_of (graph_in problem.entry.lists) problem.entry.k problem.entry.bound (rows_in rows.now (length problem.entry.lists.costs.now) r)) table.old table.new result }
 {
@@ -211,9 +211,9 @@ fn divide_at(
 }
 
 // The links of the row below row r, if there is one.
-fn link_below(store: &RowStore<'_>, m: usize, r: usize, links: &mut LinkTable)
-    requires { Linkable m r store.now.froms.now store.now.tos.now store.now.sizes }
-    ensures { LinkedBelow m r store.now.froms.now store.now.tos.now store.now.sizes links.new.head links.new.next }
+fn link_below(store: StoredRows<'_>, m: usize, r: usize, links: &mut LinkTable)
+    requires { Linkable m r store.froms.now store.tos.now store.sizes.now }
+    ensures { LinkedBelow m r store.entry.froms.now store.entry.tos.now store.entry.sizes.now links.new.head links.new.next }
 {
     if r > 0 {
         graph::link_leaving(row_edges(store, m, r - 1), links);
@@ -226,19 +226,19 @@ fn link_below(store: &RowStore<'_>, m: usize, r: usize, links: &mut LinkTable)
 pub fn choose(
     problem: Problem<'_>,
     rows: &[u16],
-    store: &RowStore<'_>,
+    store: StoredRows<'_>,
     links: &mut LinkTable,
     top: usize,
     table: &mut [u16],
 ) -> Option<FirstCut>
     requires proper { Proper (graph_in problem.lists) }
     requires hierarchy { Hierarchy (graph_in problem.lists) (rows_in rows.now (length problem.lists.costs.now)) top }
-    requires orders_stored { OrdersStored (graph_in problem.lists) (rows_in rows.now (length problem.lists.costs.now)) top store.now.orders }
-    requires stored { Stored (graph_in problem.lists) (rows_in rows.now (length problem.lists.costs.now)) top (length problem.lists.starts.now) store.now.froms.now store.now.tos.now store.now.wides.now store.now.sizes }
-    requires linked_at { LinkedAt (length problem.lists.starts.now) top store.now.froms.now store.now.tos.now store.now.sizes links.old.head links.old.next }
+    requires orders_stored { OrdersStored (graph_in problem.lists) (rows_in rows.now (length problem.lists.costs.now)) top store.orders.now }
+    requires stored { Stored (graph_in problem.lists) (rows_in rows.now (length problem.lists.costs.now)) top (length problem.lists.starts.now) store.froms.now store.tos.now store.wides.now store.sizes.now }
+    requires linked_at { LinkedAt (length problem.lists.starts.now) top store.froms.now store.tos.now store.sizes.now links.old.head links.old.next }
     requires borrowed { Borrowed (length problem.lists.costs.now) problem.k top rows.now table.old }
     ensures chooses { Chooses (chosen_of (graph_in problem.entry.lists) problem.entry.k problem.entry.bound (rows_in rows.now (length problem.entry.lists.costs.now)) top) table.old table.new result }
-    ensures linked_there { LinkedThere (length problem.entry.lists.starts.now) store.now.froms.now store.now.tos.now store.now.sizes links.new.head links.new.next result }
+    ensures linked_there { LinkedThere (length problem.entry.lists.starts.now) store.entry.froms.now store.entry.tos.now store.entry.sizes.now links.new.head links.new.next result }
 {
     for row in (0..top + 1).rev() {
         if let Some(cut) = divide_at(problem, rows, store, links, row, table) {

@@ -11,4 +11,4 @@ abbrev pub invariant-loop-row : goal.invariant-loop-row
 invariant-loop-row l =
     let rows = rows_in l.rows (length l.problem.lists.costs.now) in
     (l.table ≡ l.initial.table) × (chosen_of (graph_in l.problem.lists) l.problem.k l.problem.bound rows l.top ≡ highest (λ q. initial_of (graph_in l.problem.lists) l.problem.k l.problem.bound (rows q)) l.row)
-    × LinkedBelow (length l.problem.lists.starts.now) l.row l.store.froms.now l.store.tos.now l.store.sizes l.links.head l.links.next
+    × LinkedBelow (length l.problem.lists.starts.now) l.row l.store.froms.now l.store.tos.now l.store.sizes.now l.links.head l.links.next

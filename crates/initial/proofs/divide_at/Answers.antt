@@ -15,14 +15,14 @@ divide-requires-clause-layer c = let n = length c.args.problem.lists.costs.now i
 pub divide-requires-clause-order_of : goal.divide-requires-clause-order_of
 divide-requires-clause-order_of c =
     let n = length c.args.problem.lists.costs.now in
-    rw (slice_part c.args.rows.now (c.args.r * n) n, slice_part c.args.store.now.orders (c.args.r * n) n) (c.requires.orders_stored.is c.args.r (omega arith))
+    rw (slice_part c.args.rows.now (c.args.r * n) n, slice_part c.args.store.orders.now (c.args.r * n) n) (c.requires.orders_stored.is c.args.r (omega arith))
 
 pub divide-requires-clause-coarse : goal.divide-requires-clause-coarse
 divide-requires-clause-coarse c =
     let n = length c.args.problem.lists.costs.now in
     let b = c.args.r * length c.args.problem.lists.starts.now in
     let E = c.row_edges-edges.ensures in
-    rw (slice_part c.args.rows.now (c.args.r * n) n, slice_part c.args.store.now.wides.now b (length c.row_edges-edges.result.starts.now), E.many, E.starts_are, E.ends_are) (c.requires.stored.is c.args.r (omega arith))
+    rw (slice_part c.args.rows.now (c.args.r * n) n, slice_part c.args.store.wides.now b (length c.row_edges-edges.result.starts.now), E.many, E.starts_are, E.ends_are) (c.requires.stored.is c.args.r (omega arith))
 
 pub returns : goal.returns
 returns c = rw (slice_part _ _ _) at c.divide.ensures

@@ -9,14 +9,14 @@ use Rattle.initial.proofs.row_edges.Goals as goal
 
 pub invariant_of-result : goal.invariant_of-result
 invariant_of-result c =
-    let s = c.args.store.now in
+    let s = c.args.store in
     let b = c.args.r * c.args.m in
-    let z = get_or s.sizes c.args.r 0 in
+    let z = get_or s.sizes.now c.args.r 0 in
     record { ended = rw (c.from.ensures, slice_part s.froms.now b z, slice_part s.tos.now b z) (c.requires.ended c.args.r (omega arith)) }
 
 pub returns : goal.returns
 returns c =
-    let s = c.args.store.now in
+    let s = c.args.store in
     let b = c.args.r * c.args.m in
-    let z = get_or s.sizes c.args.r 0 in
+    let z = get_or s.sizes.now c.args.r 0 in
     rw (c.from.ensures, slice_part s.froms.now b z, slice_part s.tos.now b z) (record { starts_are = refl; ends_are = refl; many = length_part s.froms.now b z (linkable_row c.requires).1 })
