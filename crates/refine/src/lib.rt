@@ -13,7 +13,7 @@ ghost use Rattle.refine.specs.Tables.{Shared, Inherits};
 
 mod row;
 
-use graph::{EdgeLists, LinkTable, Lists, Problem, RowStore};
+use graph::{EdgeLists, LinkTable, Lists, Problem, StoredRows};
 use neighbours::{Mark, Numbers, PartTable, RowEdges};
 use part_sums::PartSums;
 use pass::{Progress, Row};
@@ -101,7 +101,7 @@ fn refine_at(
 ) -> Progress
     requires row_ready { RowReady (graph_in ladder.lists) before.sums.count ladder.bound (rows_in ladder.rows.now (length ladder.lists.costs.now) r) parts.old before.moves }
     requires tracks { Tracks (graph_in ladder.lists) parts.old before.sums.count before.sums before.cut }
-    requires linked_at { LinkedAt (length ladder.lists.starts.now) r ladder.froms.now ladder.tos.now ladder.sizes.now links.now.head links.now.next }
+    requires linked_at { LinkedAt (length ladder.lists.starts.now) r ladder.store.froms.now ladder.store.tos.now ladder.store.sizes.now links.now.head links.now.next }
     requires r_bound { r ≤ ladder.rung }
     ensures { RefinedRow (graph_in ladder.entry.lists) before.sums.count ladder.entry.bound (rows_in ladder.entry.rows.now (length ladder.entry.lists.costs.now) r) parts.old before.moves parts.new result }
 {
@@ -109,14 +109,14 @@ fn refine_at(
     let m = ladder.lists.starts.len();
     let a = r * n;
     let b = r * m;
-    let e = b + usize::from(ladder.sizes[r]);
+    let e = b + usize::from(ladder.store.sizes[r]);
     let joined = JoinedRow {
         lists: ladder.lists,
         bound: ladder.bound,
         row: &ladder.rows[a..a + n],
-        from: &ladder.froms[b..e],
-        to: &ladder.tos[b..e],
-        widths: &ladder.wides[b..e],
+        from: &ladder.store.froms[b..e],
+        to: &ladder.store.tos[b..e],
+        widths: &ladder.store.wides[b..e],
         links,
     };
     refine_row(joined, parts, before)
@@ -124,19 +124,19 @@ fn refine_at(
 
 // Fills the links for row r, whose lists lie from r × m on, where this is not the rung for which they are lent.
 fn link_row(ladder: Ladder<'_>, r: usize, links: &mut LinkTable)
-    requires row_lists { RowLists (length ladder.lists.starts.now) r ladder.froms.now ladder.tos.now ladder.sizes.now }
+    requires row_lists { RowLists (length ladder.lists.starts.now) r ladder.store.froms.now ladder.store.tos.now ladder.store.sizes.now }
     requires r_bound { r < 9 }
-    requires linked_at { r ≡ ladder.rung → LinkedAt (length ladder.lists.starts.now) r ladder.froms.now ladder.tos.now ladder.sizes.now links.old.head links.old.next }
-    ensures { LinkedAt (length ladder.entry.lists.starts.now) r ladder.entry.froms.now ladder.entry.tos.now ladder.entry.sizes.now links.new.head links.new.next }
+    requires linked_at { r ≡ ladder.rung → LinkedAt (length ladder.lists.starts.now) r ladder.store.froms.now ladder.store.tos.now ladder.store.sizes.now links.old.head links.old.next }
+    ensures { LinkedAt (length ladder.entry.lists.starts.now) r ladder.entry.store.froms.now ladder.entry.store.tos.now ladder.entry.store.sizes.now links.new.head links.new.next }
 {
     if r == ladder.rung {
         return;
     }
     let a = r * ladder.lists.starts.len();
-    let e = a + usize::from(ladder.sizes[r]);
+    let e = a + usize::from(ladder.store.sizes[r]);
     let edges = EdgeLists {
-        starts: &ladder.froms[a..e],
-        ends: &ladder.tos[a..e],
+        starts: &ladder.store.froms[a..e],
+        ends: &ladder.store.tos[a..e],
     };
     graph::link_leaving(edges, links);
 }
@@ -157,7 +157,7 @@ fn refine_down(
     parts: &mut [u16],
 ) -> Outcome
     requires descends { Descends (graph_in ladder.lists) k ladder.bound ladder.rows.now ladder.rung parts.old }
-    requires linked_at { LinkedAt (length ladder.lists.starts.now) ladder.rung ladder.froms.now ladder.tos.now ladder.sizes.now links.old.head links.old.next }
+    requires linked_at { LinkedAt (length ladder.lists.starts.now) ladder.rung ladder.store.froms.now ladder.store.tos.now ladder.store.sizes.now links.old.head links.old.next }
     requires cut_value { cut ≡ cut_of (graph_in ladder.lists) parts.old }
     ensures moves_after { tally_of parts.new result.moves ≡ refined (graph_in ladder.entry.lists) k ladder.entry.bound (rows_in ladder.entry.rows.now (length ladder.entry.lists.costs.now)) ladder.entry.rung parts.old }
     ensures cut_value_2 { result.cut ≡ cut_of (graph_in ladder.entry.lists) parts.new }
@@ -181,10 +181,10 @@ fn refine_down(
 
 // The refinement of a table, whose cut is given, from a rung of the ladder down to the vertices, by the stored lists of the rungs' edges and
 // the links of that rung's edges. The links are written over; entries of the table past the vertices are untouched.
-pub fn refine<'x, 'y>(
+pub fn refine<'x>(
     problem: Problem<'x>,
     rows: &'x [u16],
-    store: &'x RowStore<'y>,
+    store: StoredRows<'x>,
     links: &mut LinkTable,
     rung: usize,
     cut: u32,
@@ -192,24 +192,18 @@ pub fn refine<'x, 'y>(
 ) -> Outcome
     requires costs_in_bounds { length problem.lists.costs.now ≤ length table.old }
     requires descends { Descends (graph_in problem.lists) problem.k problem.bound rows.now rung (take (length problem.lists.costs.now) table.old) }
-    requires stored { Stored (graph_in problem.lists) (rows_in rows.now (length problem.lists.costs.now)) rung (length problem.lists.starts.now) store.now.froms.now store.now.tos.now store.now.wides.now store.now.sizes }
-    requires linked_at { LinkedAt (length problem.lists.starts.now) rung store.now.froms.now store.now.tos.now store.now.sizes links.old.head links.old.next }
+    requires stored { Stored (graph_in problem.lists) (rows_in rows.now (length problem.lists.costs.now)) rung (length problem.lists.starts.now) store.froms.now store.tos.now store.wides.now store.sizes.now }
+    requires linked_at { LinkedAt (length problem.lists.starts.now) rung store.froms.now store.tos.now store.sizes.now links.old.head links.old.next }
     requires rung_bound { rung < 9 }
     requires cut_value { cut ≡ cut_of (graph_in problem.lists) (take (length problem.lists.costs.now) table.old) }
     ensures { Refined (graph_in problem.entry.lists) problem.entry.k problem.entry.bound rows.now rung table.old table.new result }
 {
     let Problem { lists, k, bound } = problem;
-    let froms = &*store.froms;
-    let tos = &*store.tos;
-    let wides = &*store.wides;
     let ladder = Ladder {
         lists,
         bound,
         rows,
-        froms,
-        tos,
-        wides,
-        sizes: &store.sizes,
+        store,
         rung,
     };
     let n = lists.costs.len();

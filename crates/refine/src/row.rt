@@ -7,7 +7,7 @@ ghost use Rattle.graph.specs.Links.{Linked, leave};
 ghost use Rattle.graph.specs.Coarse.{Coarse, Stored};
 ghost use Rattle.graph.specs.Lent.{graph_in};
 
-use graph::{LinkTable, Lists};
+use graph::{LinkTable, Lists, StoredRows};
 
 // The rows from a rung down with what is stored of each, and the bound of a part.
 #[derive(Clone, Copy)]
@@ -15,12 +15,9 @@ pub struct Ladder<'a> {
     pub lists: Lists<'a>,
     pub bound: u32,
     pub rows: &'a [u16],
-    pub froms: &'a [u16],
-    pub tos: &'a [u16],
-    pub wides: &'a [u32],
-    pub sizes: &'a [u16; 9],
+    pub store: StoredRows<'a>,
     pub rung: usize,
-    ghost stored: { Stored (graph_in lists) (rows_in rows.now (length lists.costs.now)) rung (length lists.starts.now) froms.now tos.now wides.now sizes.now },
+    ghost stored: { Stored (graph_in lists) (rows_in rows.now (length lists.costs.now)) rung (length lists.starts.now) store.froms.now store.tos.now store.wides.now store.sizes.now },
     ghost held: { (suc rung * length lists.costs.now ≤ length rows.now) × (rung < 9) },
 }
 

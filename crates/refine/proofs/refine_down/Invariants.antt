@@ -15,5 +15,5 @@ invariant-loop-r l = record {
   descent : Descent (graph_in l.ladder.lists) l.k l.ladder.bound (rows_in l.ladder.rows.now (length l.ladder.lists.costs.now)) l.ladder.rung
       (refined (graph_in l.ladder.lists) l.k l.ladder.bound (rows_in l.ladder.rows.now (length l.ladder.lists.costs.now)) l.ladder.rung l.initial.parts) l.r l.parts l.p.moves;
   tracks : Tracks (graph_in l.ladder.lists) l.parts l.k l.p.sums l.p.cut;
-  links : l.r ≡ l.ladder.rung + 1 → LinkedAt (length l.ladder.lists.starts.now) l.ladder.rung l.ladder.froms.now l.ladder.tos.now l.ladder.sizes.now l.links.head l.links.next;
+  links : l.r ≡ l.ladder.rung + 1 → LinkedAt (length l.ladder.lists.starts.now) l.ladder.rung l.ladder.store.froms.now l.ladder.store.tos.now l.ladder.store.sizes.now l.links.head l.links.next;
 }
