@@ -26,7 +26,7 @@ fn enough(n: usize, table: usize, rows: usize) -> bool
     n <= table && n <= rows / 9
 }
 
-// The three phases of the paper: coarsen, initial partition, refine. The local arrays hold the joined edges of nine rows.
+// The three phases of the paper: coarsen, initial partition, refine. The local arrays hold the joined edges and the orders of nine rows.
 fn phases<const M: usize>(
     problem: Problem<'_>,
     order: &[u16; 512],
@@ -42,16 +42,18 @@ fn phases<const M: usize>(
     let mut froms = [0; M];
     let mut tos = [0; M];
     let mut wides = [0; M];
+    let mut orders = [0; 4608];
     let mut store = RowStore {
         froms: &mut froms,
         tos: &mut tos,
         wides: &mut wides,
         sizes: [0; 9],
-        orders: [0; 4608],
+        orders: &mut orders,
     };
     let rounds = hierarchy::build(problem, order, levels, links, rows, &mut store);
-    let first = initial::choose(problem, rows, &store, links, rounds, table)?;
-    let last = refine::refine(problem, rows, &store, links, first.row, first.cut, table);
+    let view = store.view();
+    let first = initial::choose(problem, rows, view, links, rounds, table)?;
+    let last = refine::refine(problem, rows, view, links, first.row, first.cut, table);
     Some(Summary {
         cut: last.cut,
         rounds,

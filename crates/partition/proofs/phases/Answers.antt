@@ -15,7 +15,9 @@ pub refine-last-requires-clause-descends : goal.refine-last-requires-clause-desc
 refine-last-requires-clause-descends g c = refine_descends c.requires.ready c.build-rounds.ensures.built c.choose.ensures.chooses c.in_ok-first.was
 
 pub refine-last-requires-clause-stored : goal.refine-last-requires-clause-stored
-refine-last-requires-clause-stored g c = refine_stored c.requires.ready c.build-rounds.ensures.built c.choose.ensures.chooses c.in_ok-first.was c.build-rounds.ensures.carried
+refine-last-requires-clause-stored g c =
+    let v = c.view-view.ensures in
+    rw (v.froms, v.tos, v.wides, v.sizes) (refine_stored c.requires.ready c.build-rounds.ensures.built c.choose.ensures.chooses c.in_ok-first.was c.build-rounds.ensures.carried)
 
 pub refine-last-requires-clause-rung_bound : goal.refine-last-requires-clause-rung_bound
 refine-last-requires-clause-rung_bound g c = refine_few c.requires.ready c.build-rounds.ensures.built c.choose.ensures.chooses c.in_ok-first.was
