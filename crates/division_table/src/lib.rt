@@ -1,9 +1,9 @@
 // The table of the suffix recurrence: least cuts, at y * 17 + j for position y and j starts after it.
 #![tactic(auto)]
 
-ghost use Rattle.std.specs.Prelude.{◌≡◌, ◌+◌, ◌-◌, ◌*◌, ◌<◌, ◌≤◌, min, length, ltb, position};
+ghost use Rattle.std.specs.Prelude.{◌≡◌, ◌+◌, ◌-◌, ◌*◌, ◌<◌, ◌≤◌, length, ltb, position};
 ghost use Rattle.folds.specs.Fold.{most_cost, most_width};
-ghost use Rattle.division_table.specs.Promises.{no_cut, span, within, LowCuts, Relaxed, Topped, Table, InInterval};
+ghost use Rattle.division_table.specs.Promises.{span, within, LowCuts, Relaxed, Topped, Table, InInterval};
 ghost use Rattle.division_table.specs.Weighed.{EndOf, PassedOver, LanesOf, FilledOf, ColumnOf};
 ghost use Rattle.division_table.specs.Fewest.{Before, After, Turned};
 
@@ -15,23 +15,6 @@ pub use weights::Weights;
 // stays: a number above all cuts, so that the lanes take the lower of two with no branch.
 pub const NO_CUT: u32 = 1073741824;
 
-// a < b, compared as signed numbers: the lanes' loop is faster so.
-fn less(a: u32, b: u32) -> bool
-    requires { (a < 2147483648) × (b < 2147483648) }
-    ensures { result ≡ ltb a b }
-{
-    (a as i32) < (b as i32)
-}
-
-// The lower of the cut b and the offer to go on at the cut c, at w more.
-fn keep(b: u32, w: u32, c: u32) -> u32
-    requires { (b ≤ no_cut) × (w ≤ most_width) × (c ≤ no_cut) }
-    ensures { result ≡ min b (w + c) }
-{
-    let x = w + c;
-    if less(x, b) { x } else { b }
-}
-
 // The offers to the lanes to go on at the position whose cuts stand from `at` on, at w more.
 fn relax<const N: usize>(cut: &[u32], at: usize, w: u32, best: &mut [u32; N])
     requires low_cuts { LowCuts cut.now }
@@ -40,7 +23,7 @@ fn relax<const N: usize>(cut: &[u32], at: usize, w: u32, best: &mut [u32; N])
     ensures { Relaxed at w cut.now N best.old best.new }
 {
     for j in 0..N {
-        best[j] = keep(best[j], w, cut[at + j]);
+        best[j] = best[j].min(w + cut[at + j]);
     }
 }
 
@@ -51,7 +34,7 @@ fn highest<const N: usize>(best: &[u32; N]) -> u32
 {
     let mut m: u32 = 0;
     for b in best {
-        m = if less(m, *b) { *b } else { m };
+        m = m.max(*b);
     }
     m
 }
