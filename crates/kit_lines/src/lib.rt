@@ -35,7 +35,9 @@ pub enum Kind {
 impl From<u8> for Kind {
     ghost from_gives = { λ letter kind. kind ≡ kind_of letter };
 
-    fn from(letter: u8) -> Kind {
+    fn from(letter: u8) -> Kind
+        ensures { result ≡ kind_of letter }
+    {
         match letter {
             b'k' => Kind::Kit,
             b'b' => Kind::Block,
