@@ -52,6 +52,7 @@ pub struct EdgeLinks<'a, 'b> {
 
 // stays: `first` and `after` hand on what ends a list as it is: a walk tests for it once an edge, as it would for none.
 // stays: walks along links, here and in other crates, count nothing; an iterator would need a law of what it yields beside `Linked`.
+// stays: bounds of a single number (`u < 512`, `g ≤ 512`) are clauses, here and in other crates: a type would be made at each entry read and taken apart at each index.
 impl EdgeLinks<'_, '_> {
     // The first edge that leaves u, or how many edges there are.
     pub fn first(self, u: usize) -> usize
