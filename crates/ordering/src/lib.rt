@@ -143,8 +143,6 @@ pub fn order_by<'a, 'b>(
     ensures levels_after { result ≡ g → levels.new ≡ over (levels_of (arcs_in links.entry.edges) g) (zeros 512) }
 {
     *levels = [0; 512];
-    // stays: only the invariant of the loop reads `marks`: what is taken would be longer to say by the front of `out`.
-    let mut marks = [0u8; 512];
     let mut waits = Waits {
         count: [0; 512],
         ready: Numbers::new(),
@@ -157,7 +155,6 @@ pub fn order_by<'a, 'b>(
             return n;
         };
         out[n] = u as u16;
-        marks[u] = 1;
         waits.ready.take(u);
         waits.release(clusters, u, levels);
     }
