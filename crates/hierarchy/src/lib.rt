@@ -14,7 +14,7 @@ ghost use Rattle.matching.specs.Promises.{RoundReady};
 ghost use Rattle.hierarchy.specs.Promises.{Carries, JoinsRow, Carried, Carrying, LevelsAt, RowsRoom, Steps, HandsOn, HandedOn, Buildable, Built};
 
 use graph::{EdgeLinks, EdgeLists, LinkTable, Lists, Problem, RowStore, StoredRows};
-use matching_scan::{Pairing, Scan};
+use matching_scan::Scan;
 use row_lists::Renaming;
 
 // What rows are built by: a problem of at most 16 parts, whose costs are not too many.
@@ -56,17 +56,12 @@ fn join_row(
     let n = plan.problem.lists.costs.len();
     let a = r * n;
     let b = a + n;
-    let mut pairing = Pairing {
-        mates: [0; 512],
-        tos: [0; 512],
-        blocked: [0; 512],
-    };
-    let pairs = matching::round(scan, order, g, &mut pairing);
+    let (mates, pairs) = matching::round(scan, order, g);
     if 10 * pairs < g {
         return None;
     }
     let mut out = [0; 512];
-    let h = contraction::next_row(&rows[a..b], &pairing.mates, map, &mut out);
+    let h = contraction::next_row(&rows[a..b], &mates, map, &mut out);
     row_lists::copy(&out[..n], rows, b);
     Some(h)
 }

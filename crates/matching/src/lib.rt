@@ -44,20 +44,24 @@ fn visit(scan: Scan<'_, '_>, u: usize, pairs: &mut Pairing) -> usize
 }
 
 // One round on g clusters, which are visited in topological order, by their levels: the mate of each cluster, its own number
-// where it has none. Answers how many pairs there are.
-pub fn round(scan: Scan<'_, '_>, order: &[u16], g: usize, pairs: &mut Pairing) -> usize
+// where it has none, and how many pairs there are.
+pub fn round(scan: Scan<'_, '_>, order: &[u16], g: usize) -> ([u16; 512], usize)
     requires round_ready { RoundReady (graph_of (take g scan.costs.now) scan.links.edges.starts.now scan.links.edges.ends.now scan.widths.now) (identity g) g }
     requires cluster_costs { ClusterCosts g scan.costs.now × Narrow scan.widths.now }
     requires in_order { InOrder (arcs_in scan.links.edges) g order.now }
     requires levels_value { scan.levels.now ≡ over (levels_of (arcs_in scan.links.edges) g) (zeros 512) }
-    ensures { Matched (graph_of (take g scan.entry.costs.now) scan.entry.links.edges.starts.now scan.entry.links.edges.ends.now scan.entry.widths.now) scan.entry.bound (identity g) pairs.new.mates result }
+    ensures { Matched (graph_of (take g scan.entry.costs.now) scan.entry.links.edges.starts.now scan.entry.links.edges.ends.now scan.entry.widths.now) scan.entry.bound (identity g) result.0 result.1 }
 {
-    graph::number_entries(&mut pairs.mates);
-    pairs.tos = [0; 512];
-    pairs.blocked = [0; 512];
+    let mut mates = [0; 512];
+    graph::number_entries(&mut mates);
+    let mut pairs = Pairing {
+        mates,
+        tos: [0; 512],
+        blocked: [0; 512],
+    };
     let mut count: usize = 0;
     for u in &order[..g] {
-        count += visit(scan, usize::from(*u), pairs);
+        count += visit(scan, usize::from(*u), &mut pairs);
     }
-    count
+    (pairs.mates, count)
 }

@@ -1,6 +1,5 @@
 use Prim.Native.Nat.{◌<◌}
-use mathlib.Core.Path.{◌≡◌, ◌∙◌}
-use lib.ListN.{length}
+use mathlib.Core.Path.{◌∙◌}
 use lib.Seq.{length-take-le, get_or-take}
 use native.Mathlib.Omega.{arith}
 use Rattle.matching.proofs.Steps.{rounding_none, rounding_turn, rounding_end, order_low, round_context, ready_joining}
@@ -10,7 +9,7 @@ use Rattle.matching.proofs.round.Goals as goal
 
 pub loop-u-init : goal.loop-u-init
 unfolding zeros identity
-loop-u-init c = let e : length c.args.pairs.now.mates ≡ 512 = omega arith in rounding_none _ _ _ _ _ _ (round_context c.requires.round_ready c.requires.cluster_costs.0 c.requires.levels_value) (ready_joining c.requires.round_ready) (rw e at c.number_entries.ensures)
+loop-u-init c = rounding_none _ _ _ _ _ _ (round_context c.requires.round_ready c.requires.cluster_costs.0 c.requires.levels_value) (ready_joining c.requires.round_ready) c.number_entries.ensures
 
 pub visit-count-requires : goal.visit-count-requires
 unfolding zeros
