@@ -39,7 +39,7 @@ pub struct Numbers {
 
 // A row's edges, and their lists by the cluster that they leave and by the one that they enter.
 #[derive(Clone, Copy)]
-pub struct RowEdges<'a> {
+pub struct LinkedEdges<'a> {
     pub from: &'a [u16],
     pub to: &'a [u16],
     pub out: &'a LinkTable,
@@ -58,7 +58,7 @@ struct Side<'a> {
     ghost linked: { Linked (λ i. get_or near.now i 0) (length near.now) links.now.head links.now.next },
 }
 
-impl<'a> RowEdges<'a> {
+impl<'a> LinkedEdges<'a> {
     // The edges as those out of their near ends.
     fn leaving(&self) -> Side<'a>
         ensures { (result.near.now ≡ self.now.from.now) × (result.far.now ≡ self.now.to.now) × (result.links.now ≡ self.now.out.now) }
@@ -174,7 +174,13 @@ fn fold_far<F: Fn(u16, u16) -> u16>(
 }
 
 // Makes the two numbers of h right again, where a neighbour's move may have changed them.
-pub fn refresh(edges: &RowEdges<'_>, table: &PartTable, h: usize, k: usize, numbers: &mut Numbers)
+pub fn refresh(
+    edges: &LinkedEdges<'_>,
+    table: &PartTable,
+    h: usize,
+    k: usize,
+    numbers: &mut Numbers,
+)
     requires h_bound { (h < 512) × (k ≤ 16) }
     requires known { Known edges.now.from.now edges.now.to.now table.now.parts k numbers.old.low numbers.old.high numbers.old.marks }
     ensures { Fresh edges.now.from.now edges.now.to.now table.now.parts k h numbers.new.low numbers.new.high numbers.new.marks }
@@ -208,7 +214,7 @@ fn add_widths(side: Side<'_>, widths: &[u32], table: &PartTable, h: usize, towar
 
 // The width between h and each part.
 pub fn pulls(
-    edges: &RowEdges<'_>,
+    edges: &LinkedEdges<'_>,
     widths: &[u32],
     table: &PartTable,
     h: usize,
@@ -260,7 +266,7 @@ fn mark_far(
 
 // Marks the clusters whose numbers a move of h from part own to part t can change: those at the far ends of its edges, but where the number is beyond
 // both parts, so that another neighbour gives it.
-pub fn rouse(edges: &RowEdges<'_>, h: usize, own: u16, t: u16, numbers: &mut Numbers)
+pub fn rouse(edges: &LinkedEdges<'_>, h: usize, own: u16, t: u16, numbers: &mut Numbers)
     requires h_bound { h < 512 }
     requires own_bound { (own < 16) × (t < 16) }
     ensures roused { Roused edges.now.from.now edges.now.to.now h own t numbers.old.low numbers.old.high numbers.old.marks numbers.new.marks }

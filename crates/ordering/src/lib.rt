@@ -16,7 +16,7 @@ ghost use Rattle.ordering.specs.Sweep.{raised_of, Raised};
 ghost use Rattle.pool.specs.Pool.{Kept, put_of};
 
 use graph::{EdgeLinks, EdgeLists, LinkTable};
-use pool::Numbers;
+use pool::NumberSet;
 
 // Edges between the clusters below g, with their links.
 // stays: `Inside` is a clause where links are not filled yet (`order`, `lowest_on_cycle`), and in `order_by`, which other crates call.
@@ -32,7 +32,7 @@ struct Clusters<'a, 'b> {
 #[derive(Clone, Copy)]
 struct Waits {
     count: [u16; 512],
-    ready: Numbers,
+    ready: NumberSet,
 }
 
 // What a search has come to: it is marked, and stands in the front of the queue.
@@ -57,7 +57,7 @@ fn counts(edges: EdgeLists<'_>, count: &mut [u16; 512])
 }
 
 // Puts v in where nothing is waited for.
-fn admit(c: u16, v: usize, ready: &mut Numbers)
+fn admit(c: u16, v: usize, ready: &mut NumberSet)
     requires { v < 512 }
     ensures { ready.new.words ≡ pick (eqb c 0) (put_of ready.old.words v) ready.old.words }
 {
@@ -67,11 +67,11 @@ fn admit(c: u16, v: usize, ready: &mut Numbers)
 }
 
 // The clusters below g that wait for nothing.
-fn gather(count: &[u16; 512], g: usize) -> Numbers
+fn gather(count: &[u16; 512], g: usize) -> NumberSet
     requires { g ≤ 512 }
     ensures { Kept (open_at g (zeros 512) count.now) result.words }
 {
-    let mut ready = Numbers::new();
+    let mut ready = NumberSet::new();
     for i in 0..g {
         admit(count[i], i, &mut ready);
     }
@@ -145,7 +145,7 @@ pub fn order_by<'a, 'b>(
     *levels = [0; 512];
     let mut waits = Waits {
         count: [0; 512],
-        ready: Numbers::new(),
+        ready: NumberSet::new(),
     };
     counts(links.edges, &mut waits.count);
     waits.ready = gather(&waits.count, g);

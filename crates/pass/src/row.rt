@@ -3,13 +3,13 @@
 ghost use Rattle.std.specs.Prelude.{◌<◌, ◌≤◌};
 ghost use Rattle.neighbours.specs.Visit.{Listed};
 
-use neighbours::RowEdges;
+use neighbours::LinkedEdges;
 use part_sums::PartSums;
 
 // A row's edges with their widths, its clusters' costs, and the bound of a part.
 #[derive(Clone, Copy)]
 pub struct Row<'a, 'b> {
-    pub edges: RowEdges<'a>,
+    pub edges: LinkedEdges<'a>,
     pub widths: &'b [u32],
     pub costs: &'b [u32; 512],
     pub bound: u32,

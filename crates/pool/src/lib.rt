@@ -8,7 +8,7 @@ ghost use Rattle.pool.specs.Pool.{put_of, taken_of, lowest_of};
 // A set of numbers below 512.
 // stays: the ninth word is no field of its own, since the definitions (`put_of`, `taken_of`) speak of one list of nine.
 #[derive(Clone, Copy)]
-pub struct Numbers {
+pub struct NumberSet {
     pub words: [u64; 9],
 }
 
@@ -26,11 +26,11 @@ fn low_bit(x: u64) -> usize
     u64::trailing_zeros(x) as usize
 }
 
-impl Numbers {
-    pub fn new() -> Numbers
+impl NumberSet {
+    pub fn new() -> NumberSet
         ensures { result.words ≡ replicate 9 0 }
     {
-        Numbers { words: [0; 9] }
+        NumberSet { words: [0; 9] }
     }
 
     // Puts v in.

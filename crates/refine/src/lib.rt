@@ -14,7 +14,7 @@ ghost use Rattle.refine.specs.Tables.{Shared, Inherits};
 mod row;
 
 use graph::{EdgeLists, LinkTable, Lists, Problem, StoredRows};
-use neighbours::{Mark, Numbers, PartTable, RowEdges};
+use neighbours::{LinkedEdges, Mark, Numbers, PartTable};
 use part_sums::PartSums;
 use pass::{Progress, Row};
 use row::{JoinedRow, Ladder};
@@ -57,7 +57,7 @@ fn settle(joined: JoinedRow<'_>, table: &mut PartTable, before: Progress) -> Pro
         marks: [Mark::Stale; 512],
     };
     neighbours::survey(out, table, before.sums.count, g, &mut numbers);
-    let edges = RowEdges {
+    let edges = LinkedEdges {
         from: joined.from,
         to: joined.to,
         out: joined.links,

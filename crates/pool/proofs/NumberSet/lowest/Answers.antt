@@ -1,7 +1,7 @@
 -- The first word that is not empty holds the lowest number.
 use Rattle.std.proofs.Common.{arith, eq-eqb, ne_eqb}
 use Rattle.pool.specs.Pool.{lowest_of}
-use Rattle.pool.proofs.Numbers.lowest.Goals as goal
+use Rattle.pool.proofs.NumberSet.lowest.Goals as goal
 
 pub returns-then-top-eq0 : goal.returns-then-top-eq0
 unfolding lowest_of

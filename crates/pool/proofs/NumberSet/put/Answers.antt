@@ -1,6 +1,6 @@
 -- The bit is set, and the word is marked as not empty.
 use Rattle.pool.specs.Pool.{put_of}
-use Rattle.pool.proofs.Numbers.put.Goals as goal
+use Rattle.pool.proofs.NumberSet.put.Goals as goal
 
 pub returns : goal.returns
 unfolding put_of

@@ -1,7 +1,7 @@
 -- The bit is cleared, and the mark of a word that is then empty.
 use Rattle.std.proofs.Common.{eq-eqb, ne_eqb}
 use Rattle.pool.specs.Pool.{taken_of}
-use Rattle.pool.proofs.Numbers.take.Goals as goal
+use Rattle.pool.proofs.NumberSet.take.Goals as goal
 
 pub returns-then-x-eq0 : goal.returns-then-x-eq0
 unfolding taken_of
