@@ -10,7 +10,7 @@ ghost use Rattle.topology.specs.Order.{InOrder};
 ghost use Rattle.topology.specs.Level.{levels_of};
 ghost use Rattle.matching.specs.Promises.{RoundReady, ClusterCosts, Paired, Stepped, Matched};
 
-use matching_scan::{Pairing, Scan};
+use matching_scan::{Pairing, Scan, Taken};
 
 // Makes u and v a pair.
 fn join(scan: Scan<'_, '_>, u: usize, v: usize, pairs: &mut Pairing)
@@ -36,7 +36,11 @@ fn visit(scan: Scan<'_, '_>, u: usize, pairs: &mut Pairing) -> usize
         return 0;
     }
     let total = matching_scan::total(scan.links, scan.widths, u);
-    let Some(best) = scan.choose(pairs, u, total) else {
+    let taken = Taken {
+        mates: &pairs.mates,
+        blocked: &pairs.blocked,
+    };
+    let Some(best) = scan.choose(taken, u, total) else {
         return 0;
     };
     join(scan, u, best.to, pairs);

@@ -34,6 +34,13 @@ pub struct Pairing {
     pub blocked: [u8; 512],
 }
 
+// The clusters that make no offer, as the pairs so far have it: those with a mate, and those that rule 2 blocks.
+#[derive(Clone, Copy)]
+pub struct Taken<'a> {
+    pub mates: &'a [u16; 512],
+    pub blocked: &'a [u8; 512],
+}
+
 // Whether v lies on the level after u's.
 fn is_next(levels: &[u16; 512], u: usize, v: usize) -> bool
     requires { (u < 512) × (v < 512) }
@@ -151,14 +158,14 @@ impl Scan<'_, '_> {
 
     // The width w that b offers to u, 0 where u may not take b.
     // stays: 0 is the least width, so that the running best compares offers as numbers, with no case for none.
-    fn offer(self, pairs: &Pairing, u: usize, b: usize, w: u32, total: u32) -> u32
+    fn offer(self, taken: Taken<'_>, u: usize, b: usize, w: u32, total: u32) -> u32
         requires { (u < 512) × (b < 512) }
-        ensures { result ≡ offer_in self.entry.levels.now pairs.now.mates pairs.now.blocked self.entry.costs.now self.entry.bound u b w total }
+        ensures { result ≡ offer_in self.entry.levels.now taken.entry.mates.now taken.entry.blocked.now self.entry.costs.now self.entry.bound u b w total }
     {
-        if usize::from(pairs.mates[b]) != b {
+        if usize::from(taken.mates[b]) != b {
             return 0;
         }
-        if pairs.blocked[b] != 0 {
+        if taken.blocked[b] != 0 {
             return 0;
         }
         if self.costs[u] + self.costs[b] > self.bound {
@@ -168,29 +175,29 @@ impl Scan<'_, '_> {
     }
 
     // The better of the best offer and that of b over an edge of the width w: where not even all of w would win, the offer is not worked.
-    fn improve(self, best: Best, pairs: &Pairing, u: usize, b: usize, w: u32, total: u32) -> Best
+    fn improve(self, best: Best, taken: Taken<'_>, u: usize, b: usize, w: u32, total: u32) -> Best
         requires { (u < 512) × (b < 512) }
-        ensures { Better best.width best.to (offer_in self.entry.levels.now pairs.now.mates pairs.now.blocked self.entry.costs.now self.entry.bound u b w total) b result.width result.to }
+        ensures { Better best.width best.to (offer_in self.entry.levels.now taken.entry.mates.now taken.entry.blocked.now self.entry.costs.now self.entry.bound u b w total) b result.width result.to }
     {
         if best.loses(w, b) {
-            best.or(self.offer(pairs, u, b, w, total), b)
+            best.or(self.offer(taken, u, b, w, total), b)
         } else {
             best
         }
     }
 
     // The widest offer to u, of the lowest cluster that makes it, where one is above 0.
-    pub fn choose(self, pairs: &Pairing, u: usize, total: u32) -> Option<Best>
+    pub fn choose(self, taken: Taken<'_>, u: usize, total: u32) -> Option<Best>
         requires u_bound { u < 512 }
         requires total_value { total ≡ sum_to (length self.links.edges.starts.now) (leaves (arcs_in self.links.edges) self.widths.now u) }
-        ensures { Chosen (arcs_in self.entry.links.edges) (offer_of (arcs_in self.entry.links.edges) self.entry.widths.now self.entry.levels.now pairs.now.mates pairs.now.blocked self.entry.costs.now self.entry.bound u) u result }
+        ensures { Chosen (arcs_in self.entry.links.edges) (offer_of (arcs_in self.entry.links.edges) self.entry.widths.now self.entry.levels.now taken.entry.mates.now taken.entry.blocked.now self.entry.costs.now self.entry.bound u) u result }
     {
         let m = self.links.edges.starts.len();
         let mut best = Best { width: 0, to: 512 };
         let mut j = self.links.first(u);
         while j < m {
             let b = graph::end_at(self.links.edges.ends, j);
-            best = self.improve(best, pairs, u, b, self.widths[j], total);
+            best = self.improve(best, taken, u, b, self.widths[j], total);
             j = self.links.after(j);
         }
         if best.width == 0 { None } else { Some(best) }

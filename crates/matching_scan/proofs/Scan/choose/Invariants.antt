@@ -9,7 +9,7 @@ use Rattle.graph.specs.Lent.{arcs_in}
 use Rattle.matching_scan.proofs.Scan.choose.Given as goal
 
 abbrev pub invariant-loop-j : goal.invariant-loop-j
-invariant-loop-j l = (l.m ≡ length l.self.links.edges.starts.now) × On (leave (arcs_in l.self.links.edges)) l.m l.u l.j × Widest (arcs_in l.self.links.edges) (offer_of (arcs_in l.self.links.edges) l.self.widths.now l.self.levels.now l.pairs.mates l.pairs.blocked l.self.costs.now l.self.bound l.u) l.u l.j l.best.width l.best.to
+invariant-loop-j l = (l.m ≡ length l.self.links.edges.starts.now) × On (leave (arcs_in l.self.links.edges)) l.m l.u l.j × Widest (arcs_in l.self.links.edges) (offer_of (arcs_in l.self.links.edges) l.self.widths.now l.self.levels.now l.taken.mates.now l.taken.blocked.now l.self.costs.now l.self.bound l.u) l.u l.j l.best.width l.best.to
 
 abbrev pub decreases-loop-j : goal.decreases-loop-j
 decreases-loop-j l = l.m - l.j
