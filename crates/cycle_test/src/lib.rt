@@ -57,7 +57,7 @@ fn rises_by(cells: &[u32; 512], edges: EdgeLists<'_>) -> bool
 }
 
 // Marks what edges leave.
-// stays: 0 and 1 in bytes, as the definition (`Marked`) reads numbers.
+// stays: bytes: `find_cycle` is lent such marks, where any number above 0 is one, and a `bool` would ask more of its callers.
 // stays: `Named` is a clause, here and below: one list is read, and `EdgeLists` has two.
 fn mark(starts: &[u16], left: &mut [u8; 512])
     requires { Named starts.now }
