@@ -1,16 +1,16 @@
 -- What an order takes lies on no cycle, nor what the order of the edges turned round takes.
 use Prim.Native.Nat.{ℕ, ◌+◌, ◌≤◌, ◌<◌}
 use mathlib.Core.Path.{◌≡◌, refl, sym, ap, ◌∙◌}
-use mathlib.Core.Bool.{true, false}
+use mathlib.Core.Bool.{Bool, true, false}
 use mathlib.Core.Logic.{inl, inr}
 use mathlib.Core.List.{List}
 use native.Mathlib.Omega.{arith}
 use Rattle.std.proofs.Common.{get_or-take}
-use lib.ListN.{length, get_or, set, take, length-set, length-take, get_or-append}
+use lib.ListN.{length, get_or, set, take, replicate, length-set, length-take, get_or-append}
 use lib.Seq.{get_or-set_other}
-use Rattle.folds.specs.Fold.{over, zeros}
+use Rattle.folds.specs.Fold.{over}
 use Rattle.folds.proofs.Cases.{no_bool, by, either, eq_or_ne}
-use Rattle.folds.proofs.Lists.{get_d_zeros}
+use Rattle.ordering.proofs.Searching.{none_marked}
 use Rattle.graph.specs.Walk.{Walk, one, more}
 use Rattle.graph.specs.Graph.{Arcs, joining, Edge, Inside}
 use Rattle.graph.specs.Links.{Ended}
@@ -57,7 +57,7 @@ ended_back E = record { from = E.to; to = E.from; same = sym E.same }
 pub inside_turned : {starts ends : List ℕ} (g : ℕ) → Ended starts ends → Inside (joining starts ends) g → Inside (joining ends starts) g
 inside_turned g J inside j l = let (a, b) = inside j (omega (arith, J.same)) in (b, a)
 
-pub off_cycles : {starts ends : List ℕ} (g : ℕ) → Ended starts ends → Inside (joining starts ends) g → {taken turned a₀ a₁ a₂ : List ℕ} {count back : ℕ}
+pub off_cycles : {starts ends : List ℕ} (g : ℕ) → Ended starts ends → Inside (joining starts ends) g → {taken turned : List ℕ} {a₀ a₁ a₂ : List Bool} {count back : ℕ}
     → Ordering (joining starts ends) g taken count → Ordering (joining ends starts) g turned back → ((v : ℕ) → marked a₀ v ≡ true → ⊥)
     → SetAside taken count a₀ a₁ → SetAside turned back a₁ a₂ → OffCycles (joining starts ends) g a₂
 off_cycles {starts} {ends} g J inside O P none S T =
@@ -98,19 +98,19 @@ ordering_front A g old {r} {new} lg h e q =
     record { few = omega (arith, O.few); count = n ∙ e; is = λ i l. let z : i < r = omega arith in get_or-take r new i 0 z ∙ O.is i z }
 
 -- nothing is set aside at first; one more
-pub none_aside : (v : ℕ) → marked (zeros 512) v ≡ true → ⊥
-none_aside v t = no_bool (rw (get_d_zeros 512 v) at t)
+pub none_aside : (v : ℕ) → marked (replicate 512 false) v ≡ true → ⊥
+none_aside v t = no_bool (sym (none_marked v) ∙ t)
 
-pub aside_first : {order aside : List ℕ} → length aside ≡ 512 → SetAside order 0 aside aside
+pub aside_first : {order : List ℕ} {aside : List Bool} → length aside ≡ 512 → SetAside order 0 aside aside
 aside_first h = record { tall = h; from = λ v t. inl t }
 
-pub aside_turn : {order aside₀ aside : List ℕ} {i v : ℕ} → v ≡ get_or order i 0 → SetAside order i aside₀ aside → SetAside order (i + 1) aside₀ (set aside v 1)
+pub aside_turn : {order : List ℕ} {aside₀ aside : List Bool} {i v : ℕ} → v ≡ get_or order i 0 → SetAside order i aside₀ aside → SetAside order (i + 1) aside₀ (set aside v true)
 aside_turn {order} {aside₀} {aside} {i} {v} e S =
     record {
-      tall = length-set aside v 1 ∙ S.tall;
+      tall = length-set aside v true ∙ S.tall;
       from = λ u t.
           either (eq_or_ne u v) (λ q. inr (i, omega arith, sym e ∙ sym q))
-          (λ n. either (S.from u (rw (get_or-set_other aside v u 1 0 n) at t)) inl (λ x. let (j, l, w) = x in inr (j, omega arith, w)));
+          (λ n. either (S.from u (rw (get_or-set_other aside v u true false n) at t)) inl (λ x. let (j, l, w) = x in inr (j, omega arith, w)));
     }
 
 -- what the order took are numbers below 512

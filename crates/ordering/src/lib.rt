@@ -36,10 +36,10 @@ struct Waits {
 }
 
 // What a search has come to: it is marked, and stands in the front of the queue.
-// stays: arrays of fixed size and a count, since there is no heap; marks are 0 and 1, as the definition (`marked`) reads numbers.
+// stays: arrays of fixed size and a count, since there is no heap.
 #[derive(Clone, Copy)]
 struct Reached {
-    marks: [u8; 512],
+    marks: [bool; 512],
     queue: [u16; 512],
     count: usize,
 }
@@ -192,10 +192,10 @@ impl Reached {
         if b == u {
             return;
         }
-        if self.marks[b] != 0 {
+        if self.marks[b] {
             return;
         }
-        self.marks[b] = 1;
+        self.marks[b] = true;
         self.queue[self.count] = b as u16;
         self.count += 1;
     }
@@ -221,7 +221,7 @@ fn returns_to(clusters: Clusters<'_, '_>, v: usize) -> bool
     ensures { result ≡ on_cycle (arcs_in clusters.entry.links.edges) clusters.entry.g v }
 {
     let mut reached = Reached {
-        marks: [0; 512],
+        marks: [false; 512],
         queue: [0; 512],
         count: 0,
     };
@@ -233,7 +233,7 @@ fn returns_to(clusters: Clusters<'_, '_>, v: usize) -> bool
         reached.spread(clusters.links, v, u);
         i += 1;
     }
-    reached.marks[v] != 0
+    reached.marks[v]
 }
 
 // The lower of `low` and a, if an edge from a goes to b, another of the same class; else `low`.
@@ -273,16 +273,16 @@ fn guess_lowest(clusters: Clusters<'_, '_>) -> usize
 }
 
 // Whether v lies on a cycle: those set aside do not.
-fn is_on_cycle(clusters: Clusters<'_, '_>, aside: &[u8; 512], v: usize) -> bool
+fn is_on_cycle(clusters: Clusters<'_, '_>, aside: &[bool; 512], v: usize) -> bool
     requires off { OffCycles (arcs_in clusters.links.edges) clusters.g aside.now }
     requires v_bound { v < 512 }
     ensures { result ≡ on_cycle (arcs_in clusters.entry.links.edges) clusters.entry.g v }
 {
-    aside[v] == 0 && returns_to(clusters, v)
+    !aside[v] && returns_to(clusters, v)
 }
 
 // The lowest cluster from which a walk comes back, if any.
-fn search_cycle(clusters: Clusters<'_, '_>, aside: &[u8; 512]) -> Option<usize>
+fn search_cycle(clusters: Clusters<'_, '_>, aside: &[bool; 512]) -> Option<usize>
     requires { OffCycles (arcs_in clusters.links.edges) clusters.g aside.now }
     ensures { result ≡ if_below clusters.entry.g (lowest_on_cycle (arcs_in clusters.entry.links.edges) clusters.entry.g) }
 {
@@ -295,13 +295,12 @@ fn search_cycle(clusters: Clusters<'_, '_>, aside: &[u8; 512]) -> Option<usize>
 }
 
 // Sets the entries of an order aside.
-// stays: 0 and 1 in bytes, as the definitions (`SetAside`, `OffCycles`) read numbers.
-fn set_aside(order: &[u16], aside: &mut [u8; 512])
+fn set_aside(order: &[u16], aside: &mut [bool; 512])
     requires { (i : ℕ) → i < length order.now → get_or order.now i 0 < 512 }
     ensures { SetAside order.now (length order.now) aside.old aside.new }
 {
     for v in order {
-        aside[usize::from(*v)] = 1;
+        aside[usize::from(*v)] = true;
     }
 }
 
@@ -316,7 +315,7 @@ fn search_rest(clusters: Clusters<'_, '_>, taken: &[u16]) -> Option<usize>
     };
     let mut turned = [0u16; 512];
     let count = order(back, clusters.g, &mut turned);
-    let mut aside = [0u8; 512];
+    let mut aside = [false; 512];
     set_aside(taken, &mut aside);
     set_aside(&turned[..count], &mut aside);
     search_cycle(clusters, &aside)
