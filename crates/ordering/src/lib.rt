@@ -79,7 +79,6 @@ fn gather(count: &[u16; 512], g: usize) -> NumberSet
 }
 
 // Raises the entry of b to x where it is lower, unless b is u.
-// stays: an `if`: with `max` an entry would be written where nothing rises too.
 fn lift(levels: &mut [u16; 512], u: usize, b: usize, x: u16)
     requires { b < 512 }
     ensures { levels.new ≡ raised_of levels.old u b x }
@@ -87,9 +86,7 @@ fn lift(levels: &mut [u16; 512], u: usize, b: usize, x: u16)
     if b == u {
         return;
     }
-    if levels[b] < x {
-        levels[b] = x;
-    }
+    levels[b] = levels[b].max(x);
 }
 
 impl Waits {
