@@ -3,7 +3,7 @@ use Prim.Native.Nat.{ℕ, ◌+◌, ◌-◌, ◌≤◌, ◌<◌, ◌^◌, min}
 use mathlib.Core.Path.{◌≡◌, refl, sym, ap, subst, ◌∙◌}
 use mathlib.Core.Bool.{Bool, true, false, not, ◌&&◌, ◌||◌}
 use mathlib.Core.List.{List}
-use Rattle.std.specs.Prelude.{Some, None}
+use Rattle.std.specs.Prelude.{Option, Some, None, unwrap_or}
 use mathlib.Core.Logic.{◌⊎◌, inl, inr}
 use native.Mathlib.Omega.{arith}
 use lib.Dec.{eqb, ltb, leb}
@@ -246,10 +246,10 @@ module _ (f : ℕ → ℕ) (S : PartSums) (own cost bound low high : ℕ) where
           rw (ne_eqb own u (λ q. let k = rw (← q) at m in omega arith), le-leb high (u + 1) (omega arith), le-leb u low (omega arith), z, eq-eqb (f u) (f own) (A.between u g l ∙ sym (A.between own a b)), x)
           (or_r (ltb (f own) (f u)) true refl)
 
-      pub even_choice : {r : ℕ} → EvenPart S own cost bound low high r → r ≡ choice_of f S own cost bound low high
-      even_choice {r} (inl (q, n)) =
-          q ∙ all_closed (λ u lu o. let (g, l, y) = only_even u lu o in no_bool (sym (n.at u g (omega arith)) ∙ y))
-      even_choice {r} (inr F) =
+      pub even_choice : (r : Option ℕ) → EvenPart S own cost bound low high r → unwrap_or r own ≡ choice_of f S own cost bound low high
+      even_choice None n =
+          all_closed (λ u lu o. let (g, l, y) = only_even u lu o in no_bool (sym (n.at u g (omega arith)) ∙ y))
+      even_choice (Some r) F =
           either choice_is (λ (_, z). absurd (no_bool (sym (z r F.inside) ∙ here)))
           (λ w. let (g, l, y) = only_even _ w.below w.has in
           let x = choice_of f S own cost bound low high in
@@ -262,9 +262,9 @@ module _ (f : ℕ → ℕ) (S : PartSums) (own cost bound low high : ℕ) where
           here : open_of f S own cost bound low high r ≡ true
           here = even_open r F.from F.below F.evens
 
-      pub even_gain : {r : ℕ} → EvenPart S own cost bound low high r → 0 ≡ f r - f own
-      even_gain (inl (q, n)) = rw q (omega arith)
-      even_gain (inr F) = omega (arith, A.between _ F.from F.below)
+      pub even_gain : (r : Option ℕ) → EvenPart S own cost bound low high r → 0 ≡ f (unwrap_or r own) - f own
+      even_gain None n = omega arith
+      even_gain (Some r) F = omega (arith, A.between _ F.from F.below)
 
 -- a cluster in the part of a neighbour has width to it
 module _ {f : ℕ → ℕ} {k own low high : ℕ} (A : Around f k own low high) where
@@ -335,11 +335,17 @@ module _ (f : ℕ → ℕ) (S : PartSums) (own cost bound low high : ℕ) (lo : 
   pub aims_held : 0 < f own → Aims f S own cost bound low high (record { part = own; gain = 0 })
   aims_held l = record { chosen = record { is = held_stays f S own cost bound low high A l none; within = lo }; gain_is = omega arith }
 
-  pub aims_even : (own ≡ low → ⊥) → (own + 1 ≡ high → ⊥) → {t : ℕ} → EvenPart S own cost bound low high t → t < 16 → Aims f S own cost bound low high (record { part = t; gain = 0 })
-  aims_even n m E lt =
+  even_low : S.count ≤ 16 → (r : Option ℕ) → EvenPart S own cost bound low high r → unwrap_or r own < 16
+  even_low l None n = lo
+  even_low l (Some r) F = omega (arith, F.inside)
+
+  pub aims_even : S.count ≤ 16 → (own ≡ low → ⊥) → (own + 1 ≡ high → ⊥) → (r : Option ℕ) {t : ℕ} → EvenPart S own cost bound low high r → t ≡ unwrap_or r own
+      → Aims f S own cost bound low high (record { part = t; gain = 0 })
+  aims_even l n m r E e =
       let a : high ≤ own = omega (arith, A.after) in
       let b : own < low = omega (arith, A.before) in
-      record { chosen = record { is = even_choice f S own cost bound low high A a b none E; within = lt }; gain_is = even_gain f S own cost bound low high A a b none E }
+      rw e
+      record { chosen = record { is = even_choice f S own cost bound low high A a b none r E; within = even_low l r E }; gain_is = even_gain f S own cost bound low high A a b none r E }
 
 -- the choice among the two ends, from what the branches say
 module _ (S : PartSums) (own cost bound high : ℕ) where

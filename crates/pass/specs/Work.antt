@@ -1,5 +1,5 @@
 -- The work on one rung, as the code does it: over a table of the clusters' parts and the record of sums.
-use Rattle.std.specs.Prelude.{ℕ, ◌+◌, ◌-◌, ◌≤◌, ◌<◌, min, ◌≡◌, Bool, true, false, not, ◌&&◌, ◌||◌, ◌⊎◌, List, eqb, ltb, leb, get_or, set}
+use Rattle.std.specs.Prelude.{Option, Some, None, ℕ, ◌+◌, ◌-◌, ◌≤◌, ◌<◌, min, ◌≡◌, Bool, true, false, not, ◌&&◌, ◌||◌, List, eqb, ltb, leb, get_or, set}
 use Rattle.folds.specs.Fold.{pick, when, best_to}
 use Rattle.neighbours.specs.Visit.{Placed, low_next, high_before, pull_to, Seated}
 use Rattle.neighbours.specs.declared.Mark.{Mark}
@@ -71,9 +71,10 @@ pub record FirstEvens (S : PartSums) (own cost bound low high r : ℕ) : Type 0 
   pub evens : evenly S own cost bound r ≡ true
   pub first : NoneEvens S own cost bound high r
 
-abbrev pub EvenPart : PartSums → ℕ → ℕ → ℕ → ℕ → ℕ → ℕ → Type 0
-EvenPart S own cost bound low high r =
-    ((r ≡ own) × NoneEvens S own cost bound high (min low S.count)) ⊎ FirstEvens S own cost bound low high r
+-- the same of a search that finds none or one
+abbrev pub EvenPart : PartSums → ℕ → ℕ → ℕ → ℕ → ℕ → Option ℕ → Type 0
+EvenPart S own cost bound low high None = NoneEvens S own cost bound high (min low S.count)
+EvenPart S own cost bound low high (Some r) = FirstEvens S own cost bound low high r
 
 -- r is that part, and one of the 16
 pub record PickedPart (f : ℕ → ℕ) (S : PartSums) (own cost bound low high r : ℕ) : Type 0 where

@@ -71,7 +71,7 @@ fn better(visit: &Visit<'_>, toward: &[u32; 16], t: usize, best: usize) -> usize
 }
 
 // The part of the highest predecessor, where the cluster goes there, or its own.
-// stays: this, `ends` and `first_even` answer the own part, no Option: it is what the next candidate is compared with, and what `Target` holds.
+// stays: this and `ends` answer the own part, no Option: it is what the next candidate is compared with.
 fn back(visit: &Visit<'_>, toward: &[u32; 16]) -> usize
     requires { visit.now.high ≤ visit.now.own + 1 }
     ensures value { result ≡ back_of (λ u. get_or toward.now u 0) visit.now.sums.now visit.now.own visit.now.cost visit.now.bound visit.now.high }
@@ -120,21 +120,20 @@ fn end_allowed(visit: &Visit<'_>) -> bool
                 .lets(visit.own, visit.low, visit.cost, visit.bound))
 }
 
-// The lowest part between with which the cluster evens its own out, or its own. No width is asked: the cluster has none to these parts.
-fn first_even(visit: &Visit<'_>) -> usize
-    ensures even_part { EvenPart visit.now.sums.now visit.now.own visit.now.cost visit.now.bound visit.now.low visit.now.high result }
-    ensures upper_bound { result < 16 }
+// The lowest part between with which the cluster evens its own out. No width is asked: the cluster has none to these parts.
+fn first_even(visit: &Visit<'_>) -> Option<usize>
+    ensures { EvenPart visit.now.sums.now visit.now.own visit.now.cost visit.now.bound visit.now.low visit.now.high result }
 {
     let end = visit.low.min(visit.sums.count);
     let mut first = visit.high;
     while let Some(t) = visit.sums.first_even(visit.own, visit.cost, first, end) {
         let allowed = visit.sums.lets(visit.own, t, visit.cost, visit.bound);
         if allowed {
-            return t;
+            return Some(t);
         }
         first = t + 1;
     }
-    visit.own
+    None
 }
 
 // Where cluster h goes, by the parts around it. Only at the two ends of the range can it gain, so that its widths are looked at where one of these is
@@ -153,11 +152,8 @@ fn decide(row: &Row<'_, '_>, table: &PartTable, h: usize, visit: &Visit<'_>) -> 
         if own + 1 == visit.high {
             return Target { part: own, gain: 0 };
         }
-        let even = first_even(visit);
-        return Target {
-            part: even,
-            gain: 0,
-        };
+        let part = first_even(visit).unwrap_or(own);
+        return Target { part, gain: 0 };
     }
     let mut toward = [0u32; 16];
     neighbours::pulls(&row.edges, row.widths, table, h, &mut toward);
