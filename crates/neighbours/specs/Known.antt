@@ -1,6 +1,6 @@
 -- What is known of the clusters from one visit to the next: for each the lowest part of a successor, one more than the highest of a
 -- predecessor, and a mark. Closed: no candidate is open to it. Right: the two numbers are right. Stale: a neighbour's move may have changed them.
-use Rattle.std.specs.Prelude.{ℕ, ◌+◌, ◌≤◌, ◌<◌, min, max, ◌≡◌, Bool, false, ◌&&◌, ◌||◌, ◌⊎◌, List, ltb, leb, length, get_or}
+use Rattle.std.specs.Prelude.{ℕ, ◌+◌, ◌≤◌, ◌<◌, min, max, ◌≡◌, Bool, false, ◌&&◌, ◌||◌, ◌⊎◌, List, eqb, ltb, leb, length, get_or}
 use Rattle.folds.specs.Fold.{pick, turns}
 use Rattle.neighbours.specs.declared.Mark.{Mark}
 use Rattle.neighbours.specs.declared.Mark.TheVariants.{Closed, Right, Stale}
@@ -9,6 +9,10 @@ use Rattle.neighbours.specs.Visit.{lower_by, raise_by, low_next, high_before}
 -- a candidate is open to a cluster of part own: from the part below high to low there is another, after own or before it
 unfoldable pub open_to : ℕ → ℕ → ℕ → ℕ → Bool
 open_to own low high k = (ltb own low && ltb (own + 1) k) || (ltb 0 own && leb high own)
+
+-- the mark for a byte
+abbrev pub mark_by : ℕ → Mark
+mark_by byte = pick (eqb byte 0) Closed (pick (eqb byte 2) Stale Right)
 
 -- the mark of cluster c
 abbrev pub mark_at : List Mark → ℕ → Mark

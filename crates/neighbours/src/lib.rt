@@ -7,7 +7,7 @@ ghost use Rattle.folds.specs.Fold.{pick, turns, Read};
 ghost use Rattle.graph.specs.Links.{Linked, Ended};
 ghost use Rattle.neighbours.specs.Visit.{Placed, Listed, Indexed, fold_by, low_next, high_before, SumsRoom, Added, Pulled};
 ghost use Rattle.neighbours.specs.declared.Mark.TheVariants.{Closed, Right, Stale};
-ghost use Rattle.neighbours.specs.Known.{open_to, Known, Swept, Opened, Fresh, Staled, Roused};
+ghost use Rattle.neighbours.specs.Known.{mark_by, open_to, Known, Swept, Opened, Fresh, Staled, Roused};
 
 use graph::{EdgeLists, LinkTable};
 
@@ -18,6 +18,21 @@ pub enum Mark {
     Closed,
     Right,
     Stale,
+}
+
+// The mark for a byte: 0, 2, or any other.
+impl From<u8> for Mark {
+    ghost from_gives = { λ byte mark. mark ≡ mark_by byte };
+
+    fn from(byte: u8) -> Mark
+        ensures { result ≡ mark_by byte }
+    {
+        match byte {
+            0 => Mark::Closed,
+            2 => Mark::Stale,
+            _ => Mark::Right,
+        }
+    }
 }
 
 // The part of each cluster.
@@ -266,16 +281,23 @@ fn mark_far(
 
 // Marks the clusters whose numbers a move of h from part own to part t can change: those at the far ends of its edges, but where the number is beyond
 // both parts, so that another neighbour gives it.
-pub fn rouse(edges: &LinkedEdges<'_>, h: usize, own: u16, t: u16, numbers: &mut Numbers)
+pub fn rouse(
+    edges: &LinkedEdges<'_>,
+    h: usize,
+    own: u16,
+    t: u16,
+    low: &[u16; 512],
+    high: &[u16; 512],
+    marks: &mut [Mark; 512],
+)
     requires h_bound { h < 512 }
     requires own_bound { (own < 16) × (t < 16) }
-    ensures roused { Roused edges.now.from.now edges.now.to.now h own t numbers.old.low numbers.old.high numbers.old.marks numbers.new.marks }
-    ensures same { (numbers.new.low ≡ numbers.old.low) × (numbers.new.high ≡ numbers.old.high) }
+    ensures { Roused edges.now.from.now edges.now.to.now h own t low.now high.now marks.old marks.new }
 {
     let out = edges.leaving();
     let last = (own + 1).max(t);
-    mark_far(out, h, &numbers.high, 0, last, &mut numbers.marks);
+    mark_far(out, h, high, 0, last, marks);
     let back = edges.entering();
     let first = own.min(t + 1);
-    mark_far(back, h, &numbers.low, first, 16, &mut numbers.marks);
+    mark_far(back, h, low, first, 16, marks);
 }

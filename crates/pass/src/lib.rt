@@ -214,7 +214,15 @@ fn refine_cluster(
         return before;
     }
     table.parts[h] = t as u16;
-    neighbours::rouse(&row.edges, h, own as u16, t as u16, numbers);
+    neighbours::rouse(
+        &row.edges,
+        h,
+        own as u16,
+        t as u16,
+        &numbers.low,
+        &numbers.high,
+        &mut numbers.marks,
+    );
     let after = before.sums.moved(own, t, row.costs[h]);
     Progress {
         sums: after,

@@ -30,5 +30,4 @@ returns-clause-work_done c = record {
 }
 
 pub returns-clause-known_2 : goal.returns-clause-known_2
-returns-clause-known_2 c = let (l, h) = c.rouse.ensures.same in
-    rw (l, h) (known_moved c.requires.h_bound.1 (omega (arith, c.requires.h_bound.0, c.args.table.now.placed.long)) c.part_at-own.ensures.is c.goal-aim.ensures.known (goal_marked _ _ _ _ _ _ c.goal-aim.ensures (rw c.part_at-own.ensures.is at c.if-t-own.false) c.requires.h_bound.0) c.rouse.ensures.roused)
+returns-clause-known_2 c = known_moved c.requires.h_bound.1 (omega (arith, c.requires.h_bound.0, c.args.table.now.placed.long)) c.part_at-own.ensures.is c.goal-aim.ensures.known (goal_marked _ _ _ _ _ _ c.goal-aim.ensures (rw c.part_at-own.ensures.is at c.if-t-own.false) c.requires.h_bound.0) c.rouse.ensures
