@@ -13,6 +13,14 @@ ghost use Rattle.cycle_test.specs.Guess.{Onward};
 
 use graph::{EdgeLists, LinkTable};
 
+// Edges, and marks of what they leave.
+#[derive(Clone, Copy)]
+pub struct MarkedEdges<'a, 'b> {
+    pub edges: EdgeLists<'a>,
+    pub left: &'b [u8; 512],
+    ghost marked: { Marked edges.starts.now (length edges.starts.now) left.now },
+}
+
 // Edges that are left, in the front of two lists.
 // stays: arrays of fixed size and a count, since there is no heap.
 #[derive(Clone, Copy)]
@@ -24,6 +32,7 @@ struct Sieve {
 
 // A cell for each cluster, with its list of edges and what it waits for, or with its rank; and the queue of the lists to take.
 // stays: how many lists the queue holds is handed on beside it: as a field it is written to memory at every edge, and the check of shuffled kits took a sixth longer.
+// stays: a cell is one word for both, so that an edge reads and writes one: an enum of a list with a count, or a rank, takes two.
 #[derive(Clone, Copy)]
 struct Ranks {
     cells: [u32; 512],
@@ -84,7 +93,7 @@ fn is_thick(ends: &[u16], left: &[u8; 512]) -> bool
 }
 
 // Writes the numbers of the edges whose end is marked to the front of `picked`, and answers how many they are: no branch, since few are marked and each would be a surprise.
-// stays: the count is handed on beside an array of fixed size, since there is no heap.
+// stays: the count goes beside the array: `sift` reads it in the next line, and a type of both would be built for that.
 fn choose(ends: &[u16], left: &[u8; 512], picked: &mut [u16; 1024]) -> usize
     requires { Named ends.now }
     ensures { Picking left.now ends.now (length ends.now) picked.new result }
@@ -151,12 +160,11 @@ impl Sieve {
     }
 
     // Thins the edges, and then what is left again and again, as long as a quarter goes.
-    fn thin_all(&mut self, edges: EdgeLists<'_>, left: &[u8; 512])
-        requires { Marked edges.starts.now (length edges.starts.now) left.now }
-        ensures { Rest edges.entry.starts.now edges.entry.ends.now self.new.from self.new.to self.new.count }
+    fn thin_all(&mut self, marked: MarkedEdges<'_, '_>)
+        ensures { Rest marked.entry.edges.starts.now marked.entry.edges.ends.now self.new.from self.new.to self.new.count }
     {
-        let mut before = edges.starts.len();
-        self.sift(edges, left);
+        let mut before = marked.edges.starts.len();
+        self.sift(marked.edges, marked.left);
         while 4 * self.count < 3 * before {
             before = self.count;
             self.thin();
@@ -230,6 +238,7 @@ impl Ranks {
     }
 
     // The lists of the clusters below g that wait for nothing. Answers how many they are.
+    // stays: two lines of `line_up`, without its test for room: there is some for each cluster.
     fn line_first(&mut self, g: usize) -> usize
         requires { g ≤ 512 }
         ensures { result ≤ 512 }
@@ -306,17 +315,16 @@ fn is_ranked(edges: EdgeLists<'_>, g: usize) -> bool
 
 // Whether ranks can be guessed for g clusters that rise along every edge which thinning leaves. A function of its own, as `search` is, since the arrays
 // would else be zeroed where nothing is thinned too.
-fn is_rest_ranked(edges: EdgeLists<'_>, left: &[u8; 512], g: usize) -> bool
-    requires marked { Marked edges.starts.now (length edges.starts.now) left.now }
-    requires g_bound { g ≤ 512 }
-    ensures { result ≡ true → Acyclic (Edge (arcs_in edges.entry)) }
+fn is_rest_ranked(marked: MarkedEdges<'_, '_>, g: usize) -> bool
+    requires { g ≤ 512 }
+    ensures { result ≡ true → Acyclic (Edge (arcs_in marked.entry.edges)) }
 {
     let mut sieve = Sieve {
         from: [0; 1024],
         to: [0; 1024],
         count: 0,
     };
-    sieve.thin_all(edges, left);
+    sieve.thin_all(marked);
     if sieve.count == 0 {
         return true;
     }
@@ -328,15 +336,14 @@ fn is_rest_ranked(edges: EdgeLists<'_>, left: &[u8; 512], g: usize) -> bool
 }
 
 // Whether the edges are seen to form no cycle: where thinning is likely to leave few of them they are thinned, and what is left is ranked. False says nothing.
-fn is_free(edges: EdgeLists<'_>, left: &[u8; 512], g: usize) -> bool
-    requires marked { Marked edges.starts.now (length edges.starts.now) left.now }
-    requires g_bound { g ≤ 512 }
-    ensures { result ≡ true → Acyclic (Edge (arcs_in edges.entry)) }
+fn is_free(marked: MarkedEdges<'_, '_>, g: usize) -> bool
+    requires { g ≤ 512 }
+    ensures { result ≡ true → Acyclic (Edge (arcs_in marked.entry.edges)) }
 {
-    if is_thick(edges.ends, left) {
-        return is_ranked(edges, g);
+    if is_thick(marked.edges.ends, marked.left) {
+        return is_ranked(marked.edges, g);
     }
-    is_rest_ranked(edges, left, g)
+    is_rest_ranked(marked, g)
 }
 
 // The lowest of g clusters that lies on a cycle, if any, by an order of them.
@@ -354,16 +361,14 @@ fn search(edges: EdgeLists<'_>, g: usize) -> Option<usize>
     ordering::lowest_on_cycle(edges, g, &mut taken, &mut levels, &mut links)
 }
 
-// The lowest of g clusters that lies on a cycle, if any: searched for only where the edges are not seen to form none. What they leave is marked.
-// stays: `Marked` and `Inside` are clauses: a type of the edges, the marks and g would be built for one call.
-pub fn find_cycle(edges: EdgeLists<'_>, left: &[u8; 512], g: usize) -> Option<usize>
-    requires marked { Marked edges.starts.now (length edges.starts.now) left.now }
-    requires inside { Inside (arcs_in edges) g }
+// The lowest of g clusters that lies on a cycle, if any: searched for only where the edges are not seen to form none.
+pub fn find_cycle(marked: MarkedEdges<'_, '_>, g: usize) -> Option<usize>
+    requires inside { Inside (arcs_in marked.edges) g }
     requires g_bound { g ≤ 512 }
-    ensures { result ≡ if_below g (lowest_on_cycle (arcs_in edges.entry) g) }
+    ensures { result ≡ if_below g (lowest_on_cycle (arcs_in marked.entry.edges) g) }
 {
-    if is_free(edges, left, g) {
+    if is_free(marked, g) {
         return None;
     }
-    search(edges, g)
+    search(marked.edges, g)
 }

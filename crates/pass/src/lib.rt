@@ -125,6 +125,7 @@ fn first_even(visit: &Visit<'_>) -> Option<usize>
     ensures { EvenPart visit.now.sums.now visit.now.own visit.now.cost visit.now.bound visit.now.low visit.now.high result }
 {
     let end = visit.low.min(visit.sums.count);
+    // stays: no `for`: the search in the sums is asked again from past its find, where that is not allowed
     let mut first = visit.high;
     while let Some(t) = visit.sums.first_even(visit.own, visit.cost, first, end) {
         let allowed = visit.sums.lets(visit.own, t, visit.cost, visit.bound);

@@ -14,6 +14,7 @@ ghost use Rattle.validity.specs.declared.Cause.TheVariants.{Repeat};
 ghost use Rattle.validity.specs.Promises.{Fits, OrderLeft};
 ghost use Rattle.validity.specs.Check.{refuse_if, refuse_at, bad_vertices, bad_parts, bad_edges, bad_cost, bad_ends, repeats, repeats_from, lists_from, checked};
 
+use cycle_test::MarkedEdges;
 use graph::{EdgeLists, LinkTable, Lists, Problem};
 
 // By document 01's numbers.
@@ -207,7 +208,7 @@ fn try_edge(starts: &[u16], ends: &[u16], j: usize, stride: usize, seen: &mut [u
 }
 
 // Marks what edge j leaves, where that is wanted.
-// stays: a flag: of an `Option<&mut [u8; 512]>` (tried) a clause says what is left by cases in cases, where it says `wanted ≡ true → …` now.
+// stays: a flag, here and below: of an `Option<&mut [u8; 512]>` (tried) a clause says what is left by cases in cases, where it says `wanted ≡ true → …` now.
 fn note(wanted: bool, starts: &[u16], j: usize, left: &mut [u8; 512])
     requires { (j < length starts.now) × (get_or starts.now j 0 < 512) }
     ensures { wanted ≡ true → left.new ≡ set left.old (get_or starts.now j 0) 1 }
@@ -341,7 +342,9 @@ fn check_edges(lists: Fitted<'_>) -> Checked
             tried: found.tried,
         };
     }
-    let v = cycle_test::find_cycle(lists.edges, &left, lists.n);
+    let edges = lists.edges;
+    let marked = MarkedEdges { edges, left: &left };
+    let v = cycle_test::find_cycle(marked, lists.n);
     Checked {
         verdict: Cause::Cycle.refuse_at(v),
         tried: found.tried,
@@ -372,6 +375,7 @@ pub fn check(
 }
 
 // Checks 1 to 8 for callers that want nothing of the order.
+// stays: `check` but for the call: one of both would take a closure that promises an order or none, with more clauses than these two.
 pub fn check_bare(most: usize, problem: Problem<'_>, room: bool) -> Checked
     requires { most ≤ 512 }
     ensures { result ≡ checked_with (checked most (graph_in problem.entry.lists) problem.entry.k problem.entry.bound room) (length problem.entry.lists.starts.now) }

@@ -11,13 +11,11 @@ returns-then-found-lists c = repeat_refused c.find_repeat-found.ensures.found _ 
 pub returns-then-rises : goal.returns-then-rises
 returns-then-rises c = repeat_passed c.find_repeat-found.ensures.found _ c.if-found-lists.false (free_passes c.args.lists.fits (c.rises-rises.ensures c.if-rises.true))
 
+pub invariant_of-marked : goal.invariant_of-marked
+invariant_of-marked c = record { marked = marked_end _ (omega (arith, tried_all c.find_repeat-found.ensures.found c.if-found-lists.false)) (c.find_repeat-found.ensures.marked (ap not c.if-rises.false)) }
+
 pub find_cycle-v-requires : goal.find_cycle-v-requires
-find_cycle-v-requires c = let F = c.args.lists.fits in
-    record {
-      marked = marked_end _ (omega (arith, tried_all c.find_repeat-found.ensures.found c.if-found-lists.false)) (c.find_repeat-found.ensures.marked (ap not c.if-rises.false));
-      inside = fit_inside F;
-      g_bound = F.few;
-    }
+find_cycle-v-requires c = record { inside = fit_inside c.args.lists.fits; g_bound = c.args.lists.fits.few }
 
 pub returns : goal.returns
 returns c = repeat_passed c.find_repeat-found.ensures.found _ c.if-found-lists.false (c.refuse_at.ensures _ _ c.find_cycle-v.ensures ∙ cycle_own c.args.lists.fits)

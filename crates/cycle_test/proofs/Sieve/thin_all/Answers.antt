@@ -3,7 +3,7 @@ use Rattle.std.proofs.Common.{arith}
 use Rattle.cycle_test.proofs.Sieve.thin_all.Goals as goal
 
 pub loop-self-init : goal.loop-self-init
-loop-self-init c = (c.sift.ensures.few, c.args.edges.ended.from.few, record { held = c.sift.ensures.held; free = thinned c.requires c.sift.ensures })
+loop-self-init c = (c.sift.ensures.few, c.args.marked.edges.ended.from.few, record { held = c.sift.ensures.held; free = thinned c.args.marked.marked c.sift.ensures })
 
 pub thin-requires : goal.thin-requires
 thin-requires c = c.loop-self.invariant.2.held
