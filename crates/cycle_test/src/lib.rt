@@ -31,7 +31,7 @@ struct Sieve {
 }
 
 // A cell for each cluster, with its list of edges and what it waits for, or with its rank; and the queue of the lists to take.
-// stays: how many lists the queue holds is handed on beside it: as a field it is written to memory at every edge, and the check of shuffled kits took a sixth longer.
+// stays: how many lists the queue holds is handed on beside it: as a field (tried) it is written to memory at every edge, and checks that guess ranks took a tenth longer.
 // stays: a cell is one word for both, so that an edge reads and writes one: an enum of a list with a count, or a rank, takes two.
 #[derive(Clone, Copy)]
 struct Ranks {
