@@ -1,13 +1,14 @@
 -- The search for the next start.
 use Prim.Native.Nat.{ℕ, ◌+◌, ◌-◌, ◌*◌, ◌≤◌, ◌<◌}
-use mathlib.Core.Path.{◌≡◌, sym}
+use mathlib.Core.Path.{◌≡◌, sym, ◌∙◌}
+use Rattle.std.specs.Prelude.{Option, unwrap_or}
 use mathlib.Core.Bool.{false}
 use mathlib.Core.List.{List}
 use native.Mathlib.Omega.{arith}
-use lib.Dec.{leb}
+use lib.Dec.{ltb, leb}
 use lib.ListN.{length, get_or}
-use borrow.Author.Tests.{lt-ltb, le-ltb, leb-true, eq-eqb, ne_eqb}
-use Rattle.folds.specs.Fold.{zeros}
+use borrow.Author.Tests.{lt-ltb, le-ltb, ltb-false, leb-true, eq-eqb, ne_eqb}
+use Rattle.folds.specs.Fold.{if_below, zeros}
 use Rattle.folds.proofs.Cases.{by, either, eq_or_ne}
 use Rattle.folds.proofs.Sums.{sum_to_none}
 use Rattle.folds.proofs.Lists.{get_d_zeros, length-zeros}
@@ -44,6 +45,11 @@ module _ {out : ℕ → ℕ → ℕ} {cuts : List ℕ} {j y : ℕ} where
   pub next_none : {x : ℕ} (g : ℕ) → Passed out cuts j y x → g ≤ x + 1 → g ≡ next_by g out cuts j y
   unfolding next_by
   next_none g P h = sym (first_to_all g _ (λ z i. P.none z (omega arith)))
+
+-- the start that is found, or the number of positions
+pub start_is : {g x y : ℕ} {r : Option ℕ} → r ≡ if_below g x → y ≡ unwrap_or r g → x ≤ g → y ≡ x
+start_is {g} {x} q e l =
+    by (ltb x g) (λ t. e ∙ rw (q, t)) (λ t. let z : g ≡ x = omega (arith, ltb-false x g t) in e ∙ rw (q, t) z)
 
 -- what comes in is gathered as the interval grows
 module _ {places starts ends widths : List ℕ} {g : ℕ} (P : Positioned places starts ends widths g) where

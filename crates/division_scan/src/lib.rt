@@ -3,6 +3,7 @@
 #![tactic(auto)]
 
 ghost use Rattle.std.specs.Prelude.{◌≡◌, ◌<◌, ◌≤◌, length};
+ghost use Rattle.folds.specs.Fold.{if_below};
 ghost use Rattle.division_table.specs.Promises.{Table, Blank};
 ghost use Rattle.division_scan.specs.Scan.{IntoRoom};
 ghost use Rattle.division_scan.specs.Placed.{GatheredAt, next_in, starts_in, CutsOf};
@@ -33,12 +34,11 @@ fn gather(e: PlacedEdges<'_>, y: usize, into: &mut [u32; 512]) -> u32
     sum
 }
 
-// The start that follows y, where j follow it; or the number of positions.
-// stays: `follow` writes it as a start, as the definition (`starts_by`) does; with an `Option` it would need a case that gives up.
-fn next_start(e: PlacedEdges<'_>, cut: &[u32], y: usize, j: usize) -> usize
+// The start that follows y, where j follow it.
+fn next_start(e: PlacedEdges<'_>, cut: &[u32], y: usize, j: usize) -> Option<usize>
     requires table { Table (length e.places.now) cut.now }
     requires y_le_g { (y ≤ length e.places.now) × (j < 15) }
-    ensures { result ≡ next_in e.entry cut.now j y }
+    ensures { result ≡ if_below (length e.entry.places.now) (next_in e.entry cut.now j y) }
 {
     let g = e.places.len();
     let goal = cut[y * 17 + (j + 1)];
@@ -48,13 +48,13 @@ fn next_start(e: PlacedEdges<'_>, cut: &[u32], y: usize, j: usize) -> usize
         let w = gather(e, x - 1, &mut into);
         out = out + w - into[x - 1];
         if out + cut[x * 17 + j] == goal {
-            return x;
+            return Some(x);
         }
     }
-    g
+    None
 }
 
-// Writes the starts that follow position 0, each the next of the one before.
+// Writes the starts that follow position 0, each the next of the one before, or the number of positions.
 pub fn follow(e: PlacedEdges<'_>, cut: &[u32], first: &mut [u16])
     requires table { Table (length e.places.now) cut.now }
     requires few { length first.old < 16 }
@@ -63,7 +63,7 @@ pub fn follow(e: PlacedEdges<'_>, cut: &[u32], first: &mut [u16])
     let n = first.len();
     let mut y: usize = 0;
     for (i, start) in first.iter_mut().enumerate() {
-        y = next_start(e, cut, y, n - (i + 1));
+        y = next_start(e, cut, y, n - (i + 1)).unwrap_or(e.places.len());
         *start = y as u16;
     }
 }

@@ -12,7 +12,8 @@ mod weights;
 pub use weights::Weights;
 
 // A cut as a number: none is this one, above the others.
-// stays: a number above all cuts, so that the lanes take the lower of two with no branch.
+// stays: a number above all cuts, as in the definition (`cut_in`), so that an entry has 4 bytes, and the lanes take the lower of two by one instruction for
+// four of them.
 pub const NO_CUT: u32 = 1073741824;
 
 // The offers to the lanes to go on at the position whose cuts stand from `at` on, at w more.

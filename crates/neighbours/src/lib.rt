@@ -43,7 +43,8 @@ pub struct PartTable {
 }
 
 // What is kept of each cluster: the lowest part of a successor, one more than the highest of a predecessor, and its mark.
-// stays: the count of parts and 0 say that there is none, so that a sweep and a walk take the lower and the higher with no branch.
+// stays: the count of parts and 0 say that there is none: as bounds they are right as they stand (`own < low`, `high <= own`), where an Option would be
+// tested first, and a sweep and a walk take the lower and the higher with no branch.
 // stays: that they are right (`Known`) is a clause, since it speaks of the edges and of the table too, which a move writes between two writes of these.
 #[derive(Drop)]
 pub struct Numbers {

@@ -223,7 +223,7 @@ fn returns_to(clusters: Clusters<'_, '_>, v: usize) -> bool
         count: 0,
     };
     reached.spread(clusters.links, v, v);
-    // stays: the queue grows while it is read, so no `for`; how far it is read would be a field that every clause on the search names
+    // stays: the queue grows while it is read, so no `for`; how far it is read would be a field that every clause on the search names.
     let mut i: usize = 0;
     while i < reached.count {
         let u = usize::from(reached.queue[i]);

@@ -71,7 +71,8 @@ fn better(visit: &Visit<'_>, toward: &[u32; 16], t: usize, best: usize) -> usize
 }
 
 // The part of the highest predecessor, where the cluster goes there, or its own.
-// stays: this and `ends` answer the own part, no Option: it is what the next candidate is compared with.
+// stays: this and `ends` answer the own part, no Option: `better` takes it as the best so far, as the definition does, and with an Option clauses would
+// have to say that what is found is not that part.
 fn back(visit: &Visit<'_>, toward: &[u32; 16]) -> usize
     requires { visit.now.high ≤ visit.now.own + 1 }
     ensures value { result ≡ back_of (λ u. get_or toward.now u 0) visit.now.sums.now visit.now.own visit.now.cost visit.now.bound visit.now.high }

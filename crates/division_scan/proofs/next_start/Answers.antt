@@ -5,6 +5,8 @@ use lib.ListN.{length}
 use Rattle.folds.specs.Fold.{zeros}
 use Rattle.division_scan.proofs.Flows.{leaving_first, leaving_small}
 use Rattle.division_scan.proofs.Follows.{passed_none, passed_more, next_at, next_none, brought_none, brought_room, brought_more, leaving_more, leaving_is, leaving_room}
+use Rattle.folds.proofs.Found.{below_some, below_none}
+use Rattle.division_scan.specs.Placed.{next_in}
 use Rattle.division_scan.proofs.next_start.Goals as goal
 
 pub loop-x-init : goal.loop-x-init
@@ -37,7 +39,7 @@ pub returns-then-out-cut : goal.returns-then-out-cut
 returns-then-out-cut c =
     let e = leaving_is c.args.e.positioned c.loop-x.invariant.2 c.gather-w.ensures (omega arith) c.loop-x.invariant.1 in
     let q : c.loop-x.x - 1 + 1 ≡ c.loop-x.x = omega arith in
-    rw q at (next_at (omega arith) c.loop-x.invariant.3 e c.loop-x.invariant.0 (length c.args.e.places.now) (omega arith) (rw q c.if-out-cut.true))
+    below_some (rw q at (next_at (omega arith) c.loop-x.invariant.3 e c.loop-x.invariant.0 (length c.args.e.places.now) (omega arith) (rw q c.if-out-cut.true))) (omega arith)
 
 pub loop-x-preserved : goal.loop-x-preserved
 loop-x-preserved c =
@@ -52,4 +54,4 @@ loop-x-preserved c =
     )
 
 pub returns : goal.returns
-returns c = next_none _ c.loop-x.invariant.3 (omega arith)
+returns c = let q : length c.args.e.places.now ≡ next_in c.args.e c.args.cut.now c.args.j c.args.y = next_none _ c.loop-x.invariant.3 (omega arith) in below_none (omega arith)
