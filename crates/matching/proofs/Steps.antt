@@ -4,11 +4,12 @@ use mathlib.Core.Path.{◌≡◌, refl, sym, ap, ◌∙◌}
 use mathlib.Core.Bool.{Bool, true, false}
 use mathlib.Core.List.{List, []}
 use native.Mathlib.Omega.{arith}
+use mir.Val.{bool_byte}
 use lib.Dec.{ltb}
 use lib.ListN.{length, get_or, set, take, length-set}
 use lib.Seq.{take_all, length-take-le, get_or-take}
 use borrow.Author.Tests.{ltb-true, ltb-false}
-use Rattle.folds.specs.Fold.{any_to, list_to, over, zeros}
+use Rattle.folds.specs.Fold.{when, any_to, list_to, over, zeros}
 use Rattle.folds.proofs.Cases.{by, either}
 use Rattle.folds.proofs.Lists.{listed, length-list_to, length-zeros, get_d_past}
 use Rattle.graph.specs.Graph.{Graph, graph_of, Arcs, arcs, joining, seen, Inside, identity, part_cost}
@@ -27,6 +28,11 @@ use Rattle.matching.proofs.Choices.{Kept, none_kept, visit_kept}
 use Rattle.matching.proofs.Visits.{visit_mated, visit_stopped, visit_keeps, visit_takes}
 use Rattle.matching.proofs.Holding.{holds_none, holds_pair, visits_more}
 use Rattle.matching.proofs.Lists.{cost_identity}
+
+-- whether a pair is added, as the number that counts it
+pub one_if : (r : Bool) {n : ℕ} → n ≡ bool_byte r → when r 1 ≡ n
+one_if true e = sym e
+one_if false e = sym e
 
 pub widest_low : {A : Arcs} {f : ℕ → ℕ} {u j width to : ℕ} → Widest A f u j width to → (width ≡ 0 → ⊥) → to < 512
 widest_low W n = either W.hit (λ e. absurd (n e)) (λ h. h.1)

@@ -2,7 +2,7 @@
 #![tactic(auto)]
 
 ghost use Rattle.std.specs.Prelude.{◌≡◌, ℕ, ◌<◌, take};
-ghost use Rattle.folds.specs.Fold.{over, zeros};
+ghost use Rattle.folds.specs.Fold.{over, zeros, when};
 ghost use Rattle.graph.specs.Graph.{graph_of, identity};
 ghost use Rattle.graph.specs.Lent.{arcs_in};
 ghost use Rattle.graph.specs.Coarse.{Narrow};
@@ -23,17 +23,16 @@ fn join(scan: Scan<'_, '_>, u: usize, v: usize, pairs: &mut Pairing)
     pairs.tos[v] = 1;
 }
 
-// Visits u: pairs it with the successor that makes the widest offer, where there is one. Answers how many pairs that adds.
-// stays: 0 or 1 as a number, which the round adds to its count, as the definition (`Visited`) does.
-fn visit(scan: Scan<'_, '_>, u: usize, pairs: &mut Pairing) -> usize
+// Visits u: pairs it with the successor that makes the widest offer, where there is one. Answers whether it did.
+fn visit(scan: Scan<'_, '_>, u: usize, pairs: &mut Pairing) -> bool
     requires { (u < 512) × Narrow scan.widths.now }
-    ensures { Stepped (arcs_in scan.entry.links.edges) scan.entry.links.edges.starts.now scan.entry.links.edges.ends.now scan.entry.widths.now scan.entry.levels.now scan.entry.costs.now scan.entry.bound u pairs.old.mates pairs.old.tos pairs.old.blocked pairs.new.mates pairs.new.tos pairs.new.blocked result }
+    ensures { Stepped (arcs_in scan.entry.links.edges) scan.entry.links.edges.starts.now scan.entry.links.edges.ends.now scan.entry.widths.now scan.entry.levels.now scan.entry.costs.now scan.entry.bound u pairs.old.mates pairs.old.tos pairs.old.blocked pairs.new.mates pairs.new.tos pairs.new.blocked (when result 1) }
 {
     if usize::from(pairs.mates[u]) != u {
-        return 0;
+        return false;
     }
     if matching_scan::stops(scan.links, scan.levels, &pairs.tos, u) {
-        return 0;
+        return false;
     }
     let total = matching_scan::total(scan.links, scan.widths, u);
     let taken = Taken {
@@ -41,10 +40,10 @@ fn visit(scan: Scan<'_, '_>, u: usize, pairs: &mut Pairing) -> usize
         blocked: &pairs.blocked,
     };
     let Some(best) = scan.choose(taken, u, total) else {
-        return 0;
+        return false;
     };
     join(scan, u, best.to, pairs);
-    1
+    true
 }
 
 // One round on g clusters, which are visited in topological order, by their levels: the mate of each cluster, its own number
@@ -65,7 +64,7 @@ pub fn round(scan: Scan<'_, '_>, order: &[u16], g: usize) -> ([u16; 512], usize)
     };
     let mut count: usize = 0;
     for u in &order[..g] {
-        count += visit(scan, usize::from(*u), &mut pairs);
+        count += usize::from(visit(scan, usize::from(*u), &mut pairs));
     }
     (pairs.mates, count)
 }
