@@ -24,7 +24,7 @@ struct EntryLines<'a> {
 }
 
 // The words of each line with what may stand after them; the end is the same of all.
-fn split_fields() -> [Field<'static>; 4]
+pub fn split_fields() -> [Field<'static>; 4]
     ensures { fields_in result ≡ split_form.fields }
 {
     [

@@ -2,10 +2,12 @@ ghost use Rattle.std.specs.Prelude.{◌≡◌, ◌+◌, ◌<◌, ◌≤◌, leng
 ghost use Rattle.folds.specs.Fold.{over};
 ghost use Rattle.line_forms.specs.Lines.{Ran, in_order, column, lines_of};
 ghost use Rattle.line_forms.specs.Read.{read_form, if_numbered};
+ghost use Rattle.line_forms.specs.Lent.{fields_in};
 ghost use Rattle.answer_text.specs.Forms.{split_form, entry_form, block_word};
 ghost use Rattle.answer_text.specs.Tables.{entry_rows, saved_in, table_answer, answer_of, table_written};
 
 use crate::{entry_fields, split_fields};
+use decimal::Field;
 use line_forms::{Run, run_of, write_entries};
 
 // The reader of stage tables as the splitting program prints them.
@@ -27,6 +29,14 @@ pub enum TableError {
     Short,
 }
 
+// The words of a table's entry, with what may stand after them.
+pub fn block_entry_fields() -> [Field<'static>; 2]
+    ensures { fields_in result ≡ (entry_form block_word).fields }
+{
+    entry_fields(b"(block ")
+}
+
+// stays: the place goes beside the text, here and below, as in `decimal`.
 fn split_line(text: &[u8], at: usize) -> Option<([u32; 4], usize)>
     ensures { result ≡ read_form split_form text.now at }
 {
@@ -36,7 +46,7 @@ fn split_line(text: &[u8], at: usize) -> Option<([u32; 4], usize)>
 fn entry_line(text: &[u8], at: usize) -> Option<([u32; 2], usize)>
     ensures { result ≡ read_form (entry_form block_word) text.now at }
 {
-    line_forms::read(text, at, &entry_fields(b"(block "), b"))\n")
+    line_forms::read(text, at, &block_entry_fields(), b"))\n")
 }
 
 // The line of entry n.

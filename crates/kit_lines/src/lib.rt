@@ -3,6 +3,7 @@
 ghost use Rattle.std.specs.Prelude.{◌≡◌};
 ghost use Rattle.line_forms.specs.Lines.{Ran, of_form};
 ghost use Rattle.line_forms.specs.Read.{read_form};
+ghost use Rattle.line_forms.specs.Lent.{fields_in};
 ghost use Rattle.kit_lines.specs.Forms.{kit_form, block_form, wire_form};
 ghost use Rattle.kit_lines.specs.Scan.{kind_of, of_kind, most_of, Passed, Scanned};
 
@@ -46,33 +47,51 @@ impl From<u8> for Kind {
     }
 }
 
-// The lines' forms, a function for each kind: the numbers of a line that has the form, and the place past it.
-pub fn kit_line(text: &[u8], at: usize) -> Option<([u32; 3], usize)>
-    ensures { result ≡ read_form kit_form text.now at }
+// The words of each line with what may stand after them; the end is the same of all.
+pub fn kit_fields() -> [Field<'static>; 3]
+    ensures { fields_in result ≡ kit_form.fields }
 {
-    let fields = [
+    [
         Field::new(b"(kit (blocks ", 65535),
         Field::new(b") (stages ", 65535),
         Field::new(b") (limit ", 99_999_999),
-    ];
-    line_forms::read(text, at, &fields, b"))\n")
+    ]
+}
+
+pub fn block_fields() -> [Field<'static>; 1]
+    ensures { fields_in result ≡ block_form.fields }
+{
+    [Field::new(b"(block (cost ", 65535)]
+}
+
+pub fn wire_fields() -> [Field<'static>; 3]
+    ensures { fields_in result ≡ wire_form.fields }
+{
+    [
+        Field::new(b"(wire (from ", 65535),
+        Field::new(b") (to ", 65535),
+        Field::new(b") (width ", 65535),
+    ]
+}
+
+// The lines' forms, a function for each kind: the numbers of a line that has the form, and the place past it.
+// stays: the place goes beside the text, here and below, as in `decimal`.
+pub fn kit_line(text: &[u8], at: usize) -> Option<([u32; 3], usize)>
+    ensures { result ≡ read_form kit_form text.now at }
+{
+    line_forms::read(text, at, &kit_fields(), b"))\n")
 }
 
 pub fn block_line(text: &[u8], at: usize) -> Option<([u32; 1], usize)>
     ensures { result ≡ read_form block_form text.now at }
 {
-    line_forms::read(text, at, &[Field::new(b"(block (cost ", 65535)], b"))\n")
+    line_forms::read(text, at, &block_fields(), b"))\n")
 }
 
 pub fn wire_line(text: &[u8], at: usize) -> Option<([u32; 3], usize)>
     ensures { result ≡ read_form wire_form text.now at }
 {
-    let fields = [
-        Field::new(b"(wire (from ", 65535),
-        Field::new(b") (to ", 65535),
-        Field::new(b") (width ", 65535),
-    ];
-    line_forms::read(text, at, &fields, b"))\n")
+    line_forms::read(text, at, &wire_fields(), b"))\n")
 }
 
 // The lines of one kind from a place on: one kit line, 512 block lines or 1,024 wire lines at most.

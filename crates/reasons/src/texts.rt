@@ -1,6 +1,5 @@
 // Why a kit text is refused, or the text of a saved table.
 use crate::lines::{Fault, RefusedLine, column_of, follow, line_of};
-use decimal::Field;
 use kit_lines::Kind;
 use std::fmt;
 use validity::{Cause, Refusal};
@@ -62,23 +61,9 @@ fn counts_of(text: &[u8]) -> Counts {
 
 fn follow_kind(line: &[u8], kind: Kind) -> Result<usize, usize> {
     match kind {
-        Kind::Kit => follow(
-            line,
-            &[
-                Field::new(b"(kit (blocks ", 65_535),
-                Field::new(b") (stages ", 65_535),
-                Field::new(b") (limit ", 99_999_999),
-            ],
-        ),
-        Kind::Block => follow(line, &[Field::new(b"(block (cost ", 65_535)]),
-        Kind::Wire => follow(
-            line,
-            &[
-                Field::new(b"(wire (from ", 65_535),
-                Field::new(b") (to ", 65_535),
-                Field::new(b") (width ", 65_535),
-            ],
-        ),
+        Kind::Kit => follow(line, &kit_lines::kit_fields()),
+        Kind::Block => follow(line, &kit_lines::block_fields()),
+        Kind::Wire => follow(line, &kit_lines::wire_fields()),
     }
 }
 
@@ -92,6 +77,7 @@ fn breaks(line: &[u8], kind: Kind) -> Fault {
     Fault::Breaks(column_of(follow_kind(line, kind)))
 }
 
+// stays: a `match` on a number, here and in `SavedReason`: it is a line's, which no type of cases names.
 fn kit_line(text: &[u8], number: usize) -> RefusedLine<'_, &'static str> {
     let bytes = line_of(text, number);
     let (fault, expected) = match number {
@@ -176,21 +162,11 @@ impl fmt::Display for SavedReason<'_> {
 }
 
 fn split_fault(line: &[u8]) -> Fault {
-    let fields = [
-        Field::new(b"(split (cut ", 99_999_999),
-        Field::new(b") (rungs ", 99_999_999),
-        Field::new(b") (cutat ", 99_999_999),
-        Field::new(b") (moves ", 99_999_999),
-    ];
-    Fault::Breaks(column_of(follow(line, &fields)))
+    Fault::Breaks(column_of(follow(line, &answer_text::split_fields())))
 }
 
 fn entry_fault(line: &[u8]) -> Fault {
-    let fields = [
-        Field::new(b"(block ", 65_535),
-        Field::new(b" (stage ", 65_535),
-    ];
-    let followed = follow(line, &fields);
+    let followed = follow(line, &answer_text::tables::block_entry_fields());
     if followed.is_ok() {
         Fault::Is("another block's line, out of order")
     } else {

@@ -1,8 +1,8 @@
 -- The line is read by the form's words.
-use Rattle.line_forms.specs.Read.{read_form, read_fields}
-use borrow.Author.Rules.{rules}
+use Rattle.std.proofs.Common.{refl, ◌∙◌}
+use Rattle.line_forms.specs.Read.{read_form}
 use Rattle.kit_lines.proofs.kit_line.Goals as goal
 
 pub returns : goal.returns
-unfolding read_form read_fields
-returns c = search rules
+unfolding read_form
+returns c = c.read.ensures ∙ rw c.kit_fields.ensures refl

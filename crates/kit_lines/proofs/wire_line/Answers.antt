@@ -1,8 +1,8 @@
 -- The line is read by the form's words.
+use Rattle.std.proofs.Common.{refl, ◌∙◌}
 use Rattle.line_forms.specs.Read.{read_form}
-use borrow.Author.Rules.{rules}
 use Rattle.kit_lines.proofs.wire_line.Goals as goal
 
 pub returns : goal.returns
 unfolding read_form
-returns c = search rules
+returns c = c.read.ensures ∙ rw c.wire_fields.ensures refl

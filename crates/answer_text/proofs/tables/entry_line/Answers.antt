@@ -5,4 +5,4 @@ use Rattle.answer_text.proofs.tables.entry_line.Goals as goal
 
 pub returns : goal.returns
 unfolding read_form
-returns c = c.read.ensures ∙ rw c.entry_fields.ensures refl
+returns c = c.read.ensures ∙ rw c.block_entry_fields.ensures refl
