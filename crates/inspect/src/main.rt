@@ -13,7 +13,7 @@ use std::env::FillError;
 use std::fs::File;
 use std::rt::{Env, Files};
 use std::{fmt, io};
-use validity::{Cause, Refusal};
+use validity::Cause;
 
 fn pass(console: Console, found: u32, saved: u32, order: &[u16]) {
     let mut buf = [0u8; 1024];
@@ -52,10 +52,7 @@ fn inspect_saved(console: Console, kit: Problem<'_>, table: Named<'_>) {
     match answer_text::tables::read_table(table.text, &mut parts) {
         Ok(saved) => inspect(console, kit, front(&parts, saved.entries), saved.cut),
         Err(TableError::BadLine(line)) => {
-            console.answer_refusal(Refusal {
-                cause: Cause::Line,
-                place: line,
-            });
+            console.answer_refusal(Cause::Line.at(line));
             console.explain_file(
                 "",
                 table.name,

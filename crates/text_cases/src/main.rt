@@ -7,7 +7,7 @@ ghost use Rattle.std.specs.Prelude.{◌≤◌};
 use answer_text::tables::{SavedTable, TableError};
 use kit_text::Figures;
 use std::{fmt, io};
-use validity::Refusal;
+use validity::{Cause, Refusal};
 
 // A name and the first three entries of a list.
 #[derive(Clone, Copy)]
@@ -134,19 +134,14 @@ fn order<const N: usize>(rt: &impl Print, name: &str) -> io::Result<()>
     )
 }
 
-// stays: the public writer takes any number and place; a `Cause` here would ask more than it does.
-fn refusal<const N: usize>(
-    rt: &impl Print,
-    name: &str,
-    number: usize,
-    place: usize,
-) -> io::Result<()>
+fn refusal<const N: usize>(rt: &impl Print, name: &str, refusal: Refusal) -> io::Result<()>
     requires { N ≤ 166 }
 {
+    let number = refusal.cause.number() as usize;
     answer::<N, _>(
         rt,
         name,
-        |buf| answer_text::write_refusal(buf, number, place),
+        |buf| answer_text::write_refusal(buf, number, refusal.place),
     )
 }
 
@@ -157,10 +152,10 @@ fn answers(rt: &impl Print) -> io::Result<()> {
     split::<45>(rt, "split of no entries, one byte short", &[])?;
     order::<88>(rt, "order")?;
     order::<87>(rt, "order, one byte short")?;
-    refusal::<31>(rt, "refusal", 9, 0)?;
-    refusal::<30>(rt, "refusal, one byte short", 9, 0)?;
-    refusal::<60>(rt, "refusal at the highest place", 15, usize::MAX)?;
-    refusal::<0>(rt, "refusal into no bytes", 4, 0)
+    refusal::<31>(rt, "refusal", Cause::Uncut.at(0))?;
+    refusal::<30>(rt, "refusal, one byte short", Cause::Uncut.at(0))?;
+    refusal::<60>(rt, "refusal at the highest place", Cause::Line.at(usize::MAX))?;
+    refusal::<0>(rt, "refusal into no bytes", Cause::Room.at(0))
 }
 
 fn say_table(rt: &impl Print, name: &str, table: Result<SavedTable, TableError>) -> io::Result<()> {
