@@ -10,6 +10,8 @@ use graph::LinkTable;
 // `tried` clusters were taken to start from. `ahead` has the edge that each cluster is at; `up` the cluster from which each was come to, and once the walk
 // has gone back from it the one below it on the list from `top` on. `class` has the lowest number that each can go back to until it has its class.
 // stays: 512 for no cluster: nothing is promised of these numbers, so that each is tested against 512 anyway before it is an index.
+// stays: 0 (not come to yet), a number (odd once lower was seen) or a class (above 6,144) in one u16: a class is above all numbers, so that `lower` needs no cases.
+// stays: a list for each: `ahead` begins as a copy of the lists' heads, and `class` is handed on by itself.
 #[derive(Clone, Copy)]
 struct Walks {
     at: u16,
@@ -23,7 +25,6 @@ struct Walks {
 // stays: a length that the type says: nothing else is promised of a guess, and `.ci/contracts` asks each function for a promise.
 impl Walks {
     // Lets u see what b sees, where that is lower, with 1 added: a number of its own is even. At 512 there is none.
-    // stays: an `if`, for 1 is added where it is lower alone; that `min` would give the same takes an argument on even and odd.
     fn lower(&mut self, u: usize, b: usize)
         requires { b < 512 }
         ensures { length self.new.class ≡ 512 }
@@ -31,9 +32,7 @@ impl Walks {
         if u >= 512 {
             return;
         }
-        if self.class[b] < self.class[u] {
-            self.class[u] = self.class[b] | 1;
-        }
+        self.class[u] = self.class[u].min(self.class[b] | 1);
     }
 
     // Comes to b in step i. For the first time it gets a number, which grows from step to step; else the one before sees what b has seen.

@@ -8,6 +8,7 @@ pub fn front<T>(list: &[T], n: usize) -> &[T] {
 }
 
 // Room for the lists of any kit.
+// stays: lists of full length, since there is no heap, and side by side, as `kit_text::read_kit` is lent them.
 #[derive(Clone, Copy)]
 pub struct KitSpace {
     costs: [u16; 512],

@@ -8,6 +8,7 @@ ghost use Rattle.decimal.specs.Read.{more_of, number_of, starts_of, field_of};
 // Numbers in base ten, read from a text and written into a buffer.
 
 // A number that is read has the place after it beside it; where none stands, there is `None`.
+// stays: the place goes beside the text: a type of both would be answered anew by each reader, with a clause that its text is the same.
 
 // The digits from a place on, after those of first.
 fn more(text: &[u8], from: usize, first: u32, most: u32) -> Option<(u32, usize)>

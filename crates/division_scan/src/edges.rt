@@ -22,6 +22,7 @@ pub struct PlacedEdges<'a> {
 }
 
 // What lies at each of g positions costs, what an interval may cost, and how many the positions before each and from each on take at least.
+// stays: arrays of 512, of which g count, as in `division_table::Weights`.
 #[derive(Clone, Copy)]
 pub struct Limits<'a> {
     pub g: usize,

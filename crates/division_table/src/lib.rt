@@ -1,4 +1,5 @@
 // The table of the suffix recurrence: least cuts, at y * 17 + j for position y and j starts after it.
+// stays: one list: its length is a const parameter in `initial`, and with rows of 17 each definition (`Table`, `Relaxed`, ..) would have a list of lists.
 #![tactic(auto)]
 
 ghost use Rattle.std.specs.Prelude.{◌≡◌, ◌+◌, ◌-◌, ◌*◌, ◌<◌, ◌≤◌, length, ltb, position};
@@ -12,8 +13,8 @@ mod weights;
 pub use weights::Weights;
 
 // A cut as a number: none is this one, above the others.
-// stays: a number above all cuts, as in the definition (`cut_in`), so that an entry has 4 bytes, and the lanes take the lower of two by one instruction for
-// four of them.
+// stays: a number above all cuts, as in the definition (`cut_in`), so that an entry has 4 bytes, where an `Option<u32>` has 8, and the lanes take the
+// lower of two by one instruction for four of them.
 pub const NO_CUT: u32 = 1073741824;
 
 // The offers to the lanes to go on at the position whose cuts stand from `at` on, at w more.
@@ -131,6 +132,7 @@ fn fill<const N: usize>(w: Weights<'_>, from: usize, cut: &mut [u32])
 }
 
 // The same for n lanes by a loop over a fixed number of them, some of which are not wanted: that is quicker.
+// stays: a `match`: a const parameter is a number in the text, so that each size is a call of its own.
 fn fill_fixed(w: Weights<'_>, from: usize, n: usize, cut: &mut [u32])
     requires table { Table w.g cut.old }
     requires n_bound { n ≤ 16 - from }
@@ -179,6 +181,7 @@ impl Packed {
 }
 
 // How many intervals within the bound the positions before each of g take at least: as many as filled ones.
+// stays: arrays of 512, of which g count, here and below, as in `Weights`.
 pub fn fewest_before(cost: &[u32; 512], bound: u32, g: usize, before: &mut [u16; 512])
     requires { (g ≤ 512) × (span cost.now 0 g ≤ most_cost) }
     ensures { Before g (within cost.now bound) before.new }

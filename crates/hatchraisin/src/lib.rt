@@ -38,6 +38,7 @@ fn kit<'x>(
 }
 
 // A call's values into the cells, or the place of its refusal and 0; its number.
+// stays: 0 or a refusal's number, and the place in a cell: C's interface, here and in the calls below.
 fn tell<const N: usize>(told: Result<[usize; N], Refusal>, answer: &mut [usize; N]) -> u32
     requires { 0 < N }
     ensures value { result ≡ (answer_in told.entry).number }
@@ -108,6 +109,7 @@ pub extern "C" fn hatch_inspect<'x>(
 }
 
 // Document 02, b: the check of a kit that is being drawn. Answers the place, 0 where there is none, and how many wires the search for a repeated one tried.
+// stays: a kit in six parameters, and a place of 0 for none, as C hands and reads them.
 #[unsafe(no_mangle)]
 pub extern "C" fn hatch_check<'x>(
     costs: &'x [u16],
@@ -131,6 +133,7 @@ pub extern "C" fn hatch_check<'x>(
 }
 
 // Document 01, the kit text. Answers the blocks, the wires, the stage count and the limit; or the place.
+// stays: four lists to write beside each other, as C lends them.
 #[unsafe(no_mangle)]
 pub extern "C" fn hatch_read(
     text: &[u8],

@@ -26,6 +26,7 @@ pub struct Joined {
 
 impl Joined {
     // Lists an edge from u to b, with the sum of b, where that is not 0, and sets the sum to 0.
+    // stays: a sum of 0 is none, or one that is listed already: `add_widths` adds to it with no case for none, and no edge of width 0 is listed.
     fn put(&mut self, u: usize, b: usize, sums: &mut [u32; 512])
         requires { (u < 512) × (b < 512) × (self.old.count < 1024) }
         ensures { Put u b self.old.count sums.old self.old.froms self.old.tos self.old.widths sums.new self.new.froms self.new.tos self.new.widths self.new.count }
@@ -78,7 +79,7 @@ fn emit(links: RowLinks<'_, '_>, g: usize, u: usize, sums: &mut [u32; 512], join
 }
 
 // The cluster that edge j leaves, or 512 where both its ends lie in one.
-// stays: 512 for none, as in `graph::leaving_at`: `head` has a place for it, so that a write needs no branch.
+// stays: 512 for none, as in `graph::leaving_at`, of which this is a twin but for the row: `head` has a place for it, so that a write needs no branch.
 fn leaves(edges: RowEdges<'_>, j: usize) -> usize
     requires { j < length edges.starts.now }
     ensures { Leaves (arcs_in edges.entry) j result }

@@ -124,6 +124,7 @@ fn load(
 }
 
 // Reads a kit text into four lists, or refuses it and leaves them alone. Checks 14, 15, 16, then 4.
+// stays: four lists to write beside each other, here and in `load`, as C lends them; a type of them would be made to be taken apart.
 pub fn read_kit(
     text: &[u8],
     costs: &mut [u16],

@@ -26,6 +26,7 @@ pub struct Scan<'a, 'b> {
 
 // The pairs so far, by cluster: its mate, or its own number; whether it is the end of a pair; whether rule 2 keeps it from becoming one.
 // stays: a cluster with no mate is its own, so that `contraction` names a cluster and its mate with no case for none.
+// stays: a list for each: the mates alone are handed on to `contraction`, and a scan is lent the lists that it reads.
 // stays: bytes: public calls (`stops`, `block`, `choose`) are lent such marks, where any number above 0 is one, and a `bool` would ask more of their callers.
 #[derive(Clone, Copy)]
 pub struct Pairing {

@@ -6,7 +6,7 @@ ghost use Rattle.std.specs.Int.Count.{count_trailing_zeros};
 ghost use Rattle.pool.specs.Pool.{put_of, taken_of, lowest_of};
 
 // A set of numbers below 512.
-// stays: the ninth word is no field of its own, since the definitions (`put_of`, `taken_of`) speak of one list of nine.
+// stays: the ninth word is no field of its own: each definition of `pool`, and each clause here and in `ordering`, would name a list and a number for one list.
 #[derive(Clone, Copy)]
 pub struct NumberSet {
     pub words: [u64; 9],
