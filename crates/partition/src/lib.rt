@@ -102,10 +102,7 @@ fn split_within(
     let checked = validity::check(most, problem, room, &mut order, &mut levels, &mut links);
     checked.verdict?;
     let inner = partition(problem, &order, &mut levels, &mut links, table, rows);
-    inner.ok_or(Refusal {
-        cause: Cause::Uncut,
-        place: 0,
-    })
+    inner.ok_or(Cause::Uncut.at(0))
 }
 
 // Document 01, the split.

@@ -1,6 +1,7 @@
 -- A refusal of the checks leaves both tables; what passed them is answered as the phases left it.
 use Rattle.std.proofs.Common.{ap, ◌∙◌}
 use Rattle.std.proofs.lemmas.Result.{err_from_is_err_and}
+use Rattle.std.specs.Option.{ok_or}
 use Rattle.partition.proofs.Work.{refused_first, ready, worked, uncut_told}
 use Rattle.partition.specs.Split.{answer_of}
 use Rattle.partition.proofs.split_within.Goals as goal
@@ -18,4 +19,4 @@ partition-inner-requires c =
 pub returns : goal.returns
 returns c =
     let w = worked _ c.requires _ _ _ c.args.table.now c.args.rows.now _ _ c.enough-room.ensures (ap (λ r. r.verdict) c.check-checked.ensures.value) c.in_ok-checked.was c.partition-inner.ensures in
-    record { result_value = ap answer_of c.ok_or.ensures.value ∙ uncut_told c.partition-inner.result ∙ w.0; table_after = w.1; rows_after = w.2 }
+    record { result_value = ap answer_of (c.ok_or.ensures.value ∙ ap (ok_or c.partition-inner.result) c.at.ensures) ∙ uncut_told c.partition-inner.result ∙ w.0; table_after = w.1; rows_after = w.2 }
