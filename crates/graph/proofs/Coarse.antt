@@ -15,7 +15,8 @@ use Rattle.folds.proofs.Sums.{sum_to_ext, sum_to-when, sum_to_only, sum_to_swap}
 use Rattle.graph.specs.Graph.{Graph, graph_of, edges, via, identity, Arcs, arcs, joining, seen, edge, width_of, Formed, RowOf, Inside}
 use Rattle.graph.specs.Links.{Ended}
 use Rattle.graph.specs.RowGraph.{row_graph}
-use Rattle.graph.specs.Coarse.{Coarse, Stored}
+use Rattle.graph.specs.Rows.{clusters}
+use Rattle.graph.specs.Coarse.{Coarse, Stored, RowLists}
 use Rattle.graph.proofs.Edges.{identity_at, joining_is, row_inside, edge_arc, arc_edge}
 use Rattle.graph.proofs.Rungs.{rung_edge}
 
@@ -144,3 +145,12 @@ pub stored_held : {G : Graph} {rows : ℕ → List ℕ} {r m : ℕ} {froms tos w
 stored_held {r = r} {m = m} S =
     let q : r * m + m ≤ suc r * m = row_in r (suc r) m (omega arith) in
     let f = S.few r (omega arith) in (omega (arith, S.from_room), omega (arith, S.to_room), omega (arith, S.width_room))
+
+-- the lists of one of the rows
+pub stored_lists : {G : Graph} {rows : ℕ → List ℕ} {top m : ℕ} {froms tos widths sizes : List ℕ} (r : ℕ) → r ≤ top → Stored G rows top m froms tos widths sizes
+    → clusters (rows r) ≤ 512 → RowLists m r froms tos sizes
+stored_lists r l S few = let (f, t, w) = stored_held (lower_stored r l S) in record { from_in = f; to_in = t; ends = coarse_ended (S.is r l) few }
+
+pub stored_widths : {G : Graph} {rows : ℕ → List ℕ} {top m : ℕ} {froms tos widths sizes : List ℕ} (r : ℕ) → r ≤ top → Stored G rows top m froms tos widths sizes
+    → r * m + get_or sizes r 0 ≤ length widths
+stored_widths r l S = (stored_held (lower_stored r l S)).2

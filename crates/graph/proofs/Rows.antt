@@ -9,7 +9,7 @@ use borrow.Author.Tests.{eq-eqb}
 use Rattle.folds.specs.Fold.{when, sum_to}
 use Rattle.folds.proofs.Sums.{sum_to_ext, sum_to_mono, sum_to_member, sum_to_only, sum_to_swap}
 use Rattle.graph.specs.Graph.{Graph, vertices, Formed, Proper}
-use Rattle.graph.specs.Rows.{clusters, Hierarchy}
+use Rattle.graph.specs.Rows.{clusters, Layer, Hierarchy}
 use Rattle.graph.specs.Links.{Joins}
 
 ones : (n : ℕ) → sum_to n (λ i. 1) ≡ n
@@ -28,8 +28,11 @@ onto_few n g f below onto =
     let b : sum_to n (λ v. sum_to g (λ c. at c v)) ≡ sum_to n (λ v. 1) = sum_to_ext n _ _ (λ v h. sum_to_only g (f v) (λ c. 1) (below v h)) in
     omega (arith, sum_to_swap g n at, ones g, ones n)
 
+pub layer_few : {G : Graph} {row : List ℕ} → Layer G row → clusters row ≤ vertices G
+layer_few {G} {row} L = onto_few (vertices G) (clusters row) (λ v. get_or row v 0) L.row_of.below L.onto
+
 pub few_clusters : {G : Graph} {rows : ℕ → List ℕ} {top : ℕ} → Hierarchy G rows top → (r : ℕ) → r ≤ top → clusters (rows r) ≤ vertices G
-few_clusters {G} {rows} H r l = onto_few (vertices G) (clusters (rows r)) (λ v. get_or (rows r) v 0) (H.layer r l).row_of.below (H.layer r l).onto
+few_clusters H r l = layer_few (H.layer r l)
 
 -- edges between the vertices of a row or a table
 pub proper_joins : {G : Graph} → Proper G → (row : List ℕ) → length row ≡ vertices G → ((v : ℕ) → v < length row → get_or row v 0 < 512) → Joins row G.starts G.ends

@@ -1,9 +1,9 @@
 -- The graph of a rung in lists: one edge for all from one cluster to another, with their summed width.
-use Rattle.std.specs.Prelude.{ℕ, suc, ◌*◌, ◌≤◌, ◌<◌, ◌≡◌, ◌&&◌, List, eqb, length, get_or}
+use Rattle.std.specs.Prelude.{ℕ, suc, ◌+◌, ◌*◌, ◌≤◌, ◌<◌, ◌≡◌, ◌&&◌, List, eqb, length, get_or}
 use Rattle.folds.specs.Fold.{when, sum_to, part, most_width}
 use Rattle.graph.specs.Graph.{Graph, identity, Arcs, arcs, joining, seen, width_of, crossing}
 use Rattle.graph.specs.Rows.{clusters}
-use Rattle.graph.specs.Links.{Linked, leave}
+use Rattle.graph.specs.Links.{Linked, Ended, leave}
 
 -- what edge j sends from u to b, another one
 unfoldable pub sent : Arcs → List ℕ → ℕ → ℕ → ℕ → ℕ
@@ -34,6 +34,12 @@ pub record Stored (G : Graph) (rows : ℕ → List ℕ) (top m : ℕ) (froms tos
   pub width_room : suc top * m ≤ length widths
   pub few : (r : ℕ) → r ≤ top → get_or sizes r 0 ≤ m
   pub is : (r : ℕ) → r ≤ top → Coarse G (rows r) (clusters (rows r)) (part froms (r * m) (get_or sizes r 0)) (part tos (r * m) (get_or sizes r 0)) (part widths (r * m) (get_or sizes r 0))
+
+-- the lists that are stored of row r lie in those lent, and name clusters below 512
+pub record RowLists (m r : ℕ) (froms tos sizes : List ℕ) : Type 0 where
+  pub from_in : r * m + get_or sizes r 0 ≤ length froms
+  pub to_in : r * m + get_or sizes r 0 ≤ length tos
+  pub ends : Ended (part froms (r * m) (get_or sizes r 0)) (part tos (r * m) (get_or sizes r 0))
 
 -- the links of the edges that leave each cluster of row r, by the lists that are stored of it
 pub record LinkedAt (m r : ℕ) (froms tos sizes head next : List ℕ) : Type 0 where

@@ -1,9 +1,10 @@
 // Graphs, rows and tables: clusters at the ends of edges, edges in lists by key, the cut of a table, costs summed by key.
 #![tactic(auto)]
 
-ghost use Rattle.std.specs.Prelude.{◌≡◌, ℕ, ◌<◌, ◌≤◌, max, length, get_or, slice_index};
-ghost use Rattle.folds.specs.Fold.{Read, over};
+ghost use Rattle.std.specs.Prelude.{◌≡◌, ℕ, ◌+◌, ◌*◌, ◌<◌, ◌≤◌, max, length, get_or, slice_index};
+ghost use Rattle.folds.specs.Fold.{Read, over, part};
 ghost use Rattle.graph.specs.Rows.{clusters};
+ghost use Rattle.graph.specs.Coarse.{RowLists, LinkedAt};
 ghost use Rattle.graph.specs.Totals.{Keyed, Totals};
 ghost use Rattle.graph.specs.Graph.{identity, arcs, joining, through, cut};
 ghost use Rattle.graph.specs.Links.{Linked, Ends, Joins, Named, Ended, Cluster, Crossing, leave, Leaves};
@@ -51,7 +52,7 @@ pub struct EdgeLinks<'a, 'b> {
 }
 
 // stays: `first` and `after` hand on what ends a list as it is: a walk tests for it once an edge, as it would for none.
-// stays: walks along links, here and in other crates, count nothing; an iterator would need a law of what it yields beside `Linked`.
+// stays: walks along links, all in other crates, count nothing; an iterator would need a law of what it yields beside `Linked`.
 // stays: bounds of a single number (`u < 512`, `g ≤ 512`) are clauses, here and in other crates: a type would be made at each entry read and taken apart at each index.
 impl EdgeLinks<'_, '_> {
     // The first edge that leaves u, or how many edges there are.
@@ -73,6 +74,7 @@ impl EdgeLinks<'_, '_> {
 
 // What is kept of each row: its joined edges, from r × m on for row r, `sizes` of them, and the topological order of its clusters, from r × n on.
 // stays: lists that are lent for all rows, and how much of each is used: no heap, so that the rows lie end to end.
+// stays: three lists of edges side by side: links and orders read two of them, as they read those that C lends (`EdgeLists`).
 #[derive(Drop)]
 pub struct RowStore<'a> {
     pub froms: &'a mut [u16],
@@ -83,6 +85,7 @@ pub struct RowStore<'a> {
 }
 
 // What is kept of each row, as it is lent to those who only read it.
+// stays: the fields of `RowStore` once more: that one writes its lists (`&mut`), this one is copied and asks for lists to read (`&`); no type is both.
 #[derive(Clone, Copy)]
 pub struct StoredRows<'a> {
     pub froms: &'a [u16],
@@ -107,6 +110,44 @@ impl RowStore<'_> {
             wides: self.wides,
             sizes: &self.sizes,
             orders: self.orders,
+        }
+    }
+}
+
+impl<'a> StoredRows<'a> {
+    // The edges of row r, where the rows have room for m each.
+    pub fn edges(self, m: usize, r: usize) -> EdgeLists<'a>
+        requires row_lists { RowLists m r self.froms.now self.tos.now self.sizes.now }
+        requires r_bound { r < 9 }
+        ensures starts { result.starts.now ≡ part self.entry.froms.now (r * m) (get_or self.entry.sizes.now r 0) }
+        ensures ends { result.ends.now ≡ part self.entry.tos.now (r * m) (get_or self.entry.sizes.now r 0) }
+    {
+        let a = r * m;
+        let b = a + usize::from(self.sizes[r]);
+        EdgeLists {
+            starts: &self.froms[a..b],
+            ends: &self.tos[a..b],
+        }
+    }
+
+    // Their widths.
+    pub fn widths(self, m: usize, r: usize) -> &'a [u32]
+        requires { (r < 9) × (r * m + get_or self.sizes.now r 0 ≤ length self.wides.now) }
+        ensures { result.now ≡ part self.entry.wides.now (r * m) (get_or self.entry.sizes.now r 0) }
+    {
+        let a = r * m;
+        &self.wides[a..a + usize::from(self.sizes[r])]
+    }
+
+    // Fills the links for row r, where this is not the row for which they are lent.
+    pub fn link_row(self, m: usize, r: usize, lent: usize, links: &mut LinkTable)
+        requires row_lists { RowLists m r self.froms.now self.tos.now self.sizes.now }
+        requires r_bound { r < 9 }
+        requires linked_at { r ≡ lent → LinkedAt m r self.froms.now self.tos.now self.sizes.now links.old.head links.old.next }
+        ensures { LinkedAt m r self.entry.froms.now self.entry.tos.now self.entry.sizes.now links.new.head links.new.next }
+    {
+        if r != lent {
+            link_leaving(self.edges(m, r), links);
         }
     }
 }

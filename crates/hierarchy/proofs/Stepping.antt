@@ -4,7 +4,7 @@ use mathlib.Core.Path.{◌≡◌, refl, sym, ap, ◌∙◌}
 use mathlib.Core.List.{List}
 use native.Mathlib.Nat.{suc-mul, mul-le-mul_right}
 use native.Mathlib.Omega.{arith}
-use lib.ListN.{length, get_or, take, drop, length-set}
+use lib.ListN.{length, get_or, take, length-set}
 use lib.Seq.{get_or-take}
 use Rattle.std.specs.Prelude.{Some, None}
 use Rattle.folds.specs.Fold.{sum_to, over, put, part, zeros, most_cost}
@@ -15,9 +15,7 @@ use Rattle.folds.proofs.Parts.{part-put}
 use Rattle.graph.specs.Graph.{Graph, vertices, edges, joining, seen, part_cost, through, Proper, RowOf}
 use Rattle.graph.specs.Rows.{clusters, Layer, rows_in}
 use Rattle.graph.specs.Coarse.{Coarse, LinkedAt}
-use Rattle.graph.specs.Links.{Linked, leave}
 use Rattle.topology.specs.Order.{order_of}
-use Rattle.topology.specs.Level.{levels_of}
 use Rattle.topology.proofs.Orders.{order_all}
 use Rattle.graph.proofs.Edges.{row_inside}
 use Rattle.contraction.specs.Next.{mate_of, next_row_of}
@@ -29,25 +27,13 @@ use Rattle.matching.specs.Choice.{round_of}
 use Rattle.matching.specs.Promises.{RoundReady}
 use Rattle.matching.proofs.Choices.{round_keeps}
 use Rattle.row_lists.specs.Carry.{Maps}
-use Rattle.row_lists.proofs.Carrying.{handed}
 use Rattle.hierarchy.specs.Rounds.{kept}
 use Rattle.matching_scan.specs.State.{Simple}
-use Rattle.graph.specs.Links.{Ended}
-use Rattle.graph.proofs.Coarse.{coarse_ended}
 use Rattle.hierarchy.specs.Promises.{Carries, JoinedRow, JoinsRow, Carrying, LevelsAt, RowsRoom, Steps, HandsOn, HandedOn}
 use Rattle.hierarchy.proofs.OneRound.{next_few, rows_in_lem}
 use Rattle.hierarchy.proofs.Handing.{next_place}
 use Rattle.hierarchy.proofs.Carrying.{coarse_order, coarse_simple}
 use Rattle.hierarchy.proofs.Storing.{part_before, next_of, stored_more, costs_total, renamed_through, next_costs, next_weights}
-
--- the links and the levels of a row, as the code hands its lists on
-pub links_handed : {m r s : ℕ} {froms tos sizes head next : List ℕ} → s ≡ get_or sizes r 0 → LinkedAt m r froms tos sizes head next
-    → Linked (leave (joining (take (r * m + s - r * m) (drop (r * m) froms)) (take (r * m + s - r * m) (drop (r * m) tos)))) (length (take (r * m + s - r * m) (drop (r * m) froms))) head next
-links_handed {m} {r} {s} {froms} {tos} e L = rw (handed froms (r * m) s, handed tos (r * m) s, e) L.linked
-
-pub levels_handed : {m r g s : ℕ} {froms tos sizes levels : List ℕ} → s ≡ get_or sizes r 0 → LevelsAt m r g froms tos sizes levels
-    → levels ≡ over (levels_of (joining (take (r * m + s - r * m) (drop (r * m) froms)) (take (r * m + s - r * m) (drop (r * m) tos))) g) (zeros 512)
-levels_handed {m} {r} {g} {s} {froms} {tos} e L = rw (handed froms (r * m) s, handed tos (r * m) s, e) L.are
 
 module _ {G : Graph} {rows : List ℕ} {r g : ℕ} {froms tos widths sizes orders weights : List ℕ} (R : RoundReady G (rows_in rows (vertices G) r) g) (S : Layer G (rows_in rows (vertices G) r))
     (C : Carrying G rows r g froms tos widths sizes orders weights) (small : g ≤ vertices G) where
@@ -69,7 +55,7 @@ module _ {G : Graph} {rows : List ℕ} {r g : ℕ} {froms tos widths sizes order
   lists : Coarse G row g (part froms (r * m) (get_or sizes r 0)) (part tos (r * m) (get_or sizes r 0)) (part widths (r * m) (get_or sizes r 0))
   lists = rw (← R.count) at (C.carried.lists.is r (omega arith))
 
-  carries : r * n + n ≤ length orders
+  pub carries : r * n + n ≤ length orders
       → Carries G row g weights (part froms (r * m) (get_or sizes r 0)) (part tos (r * m) (get_or sizes r 0)) (part widths (r * m) (get_or sizes r 0)) (part orders (r * n) n)
   carries room =
       let o = rw (← R.count) at (C.carried.order r (omega arith)) in
@@ -84,16 +70,8 @@ module _ {G : Graph} {rows : List ℕ} {r g : ℕ} {froms tos widths sizes order
         };
       }
 
-  -- the same as the code hands them on
-  pub carries_handed : {s : ℕ} → s ≡ get_or sizes r 0 → r * n + n ≤ length orders
-      → Carries G row g weights (take (r * m + s - r * m) (drop (r * m) froms)) (take (r * m + s - r * m) (drop (r * m) tos)) (take (r * m + s - r * m) (drop (r * m) widths)) (take (r * n + n - r * n) (drop (r * n) orders))
-  carries_handed {s} e room = rw (handed froms (r * m) s, handed tos (r * m) s, handed widths (r * m) s, handed orders (r * n) n, e) (carries room)
-
-  pub ended_handed : {s : ℕ} → s ≡ get_or sizes r 0 → Ended (take (r * m + s - r * m) (drop (r * m) froms)) (take (r * m + s - r * m) (drop (r * m) tos))
-  ended_handed {s} e = rw (handed froms (r * m) s, handed tos (r * m) s, e) (coarse_ended lists R.small)
-
-  pub simple_handed : {s : ℕ} → s ≡ get_or sizes r 0 → Simple (take (r * m + s - r * m) (drop (r * m) froms)) (take (r * m + s - r * m) (drop (r * m) tos)) (take (r * m + s - r * m) (drop (r * m) widths))
-  simple_handed {s} e = rw (handed froms (r * m) s, handed tos (r * m) s, handed widths (r * m) s, e) (coarse_simple lists R.small)
+  pub simple : Simple (part froms (r * m) (get_or sizes r 0)) (part tos (r * m) (get_or sizes r 0)) (part widths (r * m) (get_or sizes r 0))
+  simple = coarse_simple lists R.small
 
   -- what is handed on
   module _ (P : Proper G) (lr : r < 8) {rows' : List ℕ} (M : RowsRoom G rows' froms tos widths sizes orders) (light : sum_to n (λ v. get_or G.costs v 0) ≤ most_cost) where
@@ -229,10 +207,6 @@ module _ {G : Graph} {rows : List ℕ} {r g : ℕ} {froms tos widths sizes order
             nine = rw (H.sizes_are, length-set sizes (r + 1) H.count) M.nine;
             order_room = rw (H.orders_are, length-put orders (r * n + n) placed (omega (arith, placed_length, order_fits))) M.order_room;
           }
-
--- the lists of row r end before those of the next begin
-pub list_fits : (r m size x : ℕ) {s : ℕ} → s ≡ size → size ≤ m → suc r * m ≤ x → r * m + s ≤ x
-list_fits r m size x e l h = omega (arith, suc-mul r m)
 
 -- a round that was kept, and one that was not
 pub joined_some : {G : Graph} {k bound r : ℕ} {rows rows' : List ℕ} {x : ℕ} → JoinedRow G k bound r rows rows' (Some x)

@@ -26,6 +26,7 @@ struct Plan<'a> {
 }
 
 // Of the last row alone: the links of its edges, the levels of its clusters, and their costs. Each call promises that the links stay the caller's table.
+// stays: arrays of 512, of which a row's clusters take the front: no heap, and their number is handed on beside the row that it is of.
 // stays: that promise is a clause of four functions: it compares what a call is given with what it leaves, and a type's fact speaks of one value.
 #[derive(Drop)]
 struct Last<'a> {
@@ -85,27 +86,20 @@ fn join_at<'x>(
     ensures { JoinsRow (graph_in plan.entry.problem.lists) plan.entry.problem.k plan.entry.problem.bound r rows.old rows.new map.new result }
 {
     let n = plan.problem.lists.costs.len();
-    let size = usize::from(store.sizes[r]);
+    let m = plan.problem.lists.starts.len();
     let a = r * n;
-    let b = a + n;
-    let c = r * plan.problem.lists.starts.len();
-    let d = c + size;
-    let edges = EdgeLists {
-        starts: &store.froms[c..d],
-        ends: &store.tos[c..d],
-    };
     let links = EdgeLinks {
-        edges,
+        edges: store.edges(m, r),
         table: last.links,
     };
     let scan = Scan {
         links,
-        widths: &store.wides[c..d],
+        widths: store.widths(m, r),
         levels: last.levels,
         costs: &last.weights,
         bound: plan.problem.bound,
     };
-    join_row(plan, scan, &store.orders[a..b], map, rows, r, g)
+    join_row(plan, scan, &store.orders[a..a + n], map, rows, r, g)
 }
 
 // The links, the order and the levels of h clusters, by the edges between them, `count` of the lists from b on.

@@ -4,17 +4,13 @@ use mathlib.Core.Path.{◌≡◌, refl, ap, sym, ◌∙◌}
 use mathlib.Core.List.{List}
 use native.Mathlib.Numerals.{add-one}
 use native.Mathlib.Omega.{arith}
-use lib.ListN.{length, get_or}
+use lib.ListN.{length}
 use Rattle.folds.specs.Fold.{over}
-use Rattle.folds.proofs.Lists.{row_in}
-use Rattle.graph.specs.Graph.{Graph, Proper}
-use Rattle.graph.specs.Rows.{Hierarchy}
-use Rattle.graph.specs.Coarse.{Stored, LinkedAt}
-use Rattle.graph.proofs.Rows.{few_clusters}
-use Rattle.graph.proofs.Coarse.{lower_stored, coarse_ended}
+use Rattle.graph.specs.Graph.{Graph}
+use Rattle.graph.specs.Coarse.{LinkedAt}
 use Rattle.division_table.specs.Division.{Pick, none, some}
 use Rattle.initial.specs.Initial.{Chosen, found, uncut, or_lower, highest, initial_of, chosen_of}
-use Rattle.initial.specs.Promises.{found_of, table_with, DividedAs, initial_as, chosen_after, Chooses, Borrowed, Linkable, LinkedBelow, LinkedThere}
+use Rattle.initial.specs.Promises.{found_of, table_with, DividedAs, initial_as, chosen_after, Chooses, LinkedThere}
 use Rattle.initial.specs.declared.FirstCut.{FirstCut}
 use Rattle.std.specs.Prelude.{Option, Some, None}
 
@@ -66,35 +62,9 @@ pub rows_end : (f : ℕ → Pick (List ℕ)) (r : ℕ) {x : Chosen} {old new : L
 unfolding highest
 rows_end f r {x} z e o = let q : x ≡ uncut = e ∙ ap (highest f) z in rw q (record { is = refl; table = o })
 
--- the lists of its rows, which can be linked
-pub stored_linkable : {G : Graph} {rows : ℕ → List ℕ} {top m n k : ℕ} {froms tos widths sizes lent table : List ℕ} (r : ℕ) → r ≤ top → Proper G → Hierarchy G rows top
-    → Stored G rows top m froms tos widths sizes → Borrowed n k top lent table → Linkable m r froms tos sizes
-stored_linkable r l P H S L =
-    let T = lower_stored r l S in
-    record {
-      rows = omega (arith, L.few);
-      from_room = T.from_room;
-      to_room = T.to_room;
-      few = T.few;
-      ended = λ q h. coarse_ended (T.is q h) (omega (arith, P.few, few_clusters H q (omega arith)));
-    }
-
--- the links where the loop begins, and where it ends
-pub linked_top : {m top : ℕ} {froms tos sizes head next : List ℕ} → LinkedAt m top froms tos sizes head next → LinkedBelow m (top + 1) froms tos sizes head next
-linked_top {top = top} K = record { below = λ _. let q : top + 1 - 1 ≡ top = omega arith in rw q K }
-
+-- the links where the loop ends
 pub linked_at : {m r c : ℕ} {froms tos sizes head next : List ℕ} → LinkedAt m r froms tos sizes head next → LinkedThere m froms tos sizes head next (Some (record { row = r; cut = c }))
 linked_at {r = r} K = record { there = λ f e. let i : r ≡ f.row = ap row_in_cut e in rw (← i) K }
-
-pub row_held : (r n : ℕ) {l : ℕ} → suc r * n ≤ l → r * n + n ≤ l
-row_held r n h = omega (arith, row_in r (suc r) n (omega arith))
-
--- the lists of a row, in what is lent
-pub linkable_row : {m r : ℕ} {froms tos sizes : List ℕ} → Linkable m r froms tos sizes
-    → (r < 9) × (r * m + get_or sizes r 0 ≤ length froms) × (r * m + get_or sizes r 0 ≤ length tos)
-linkable_row {m} {r} K =
-    let f = K.few r (omega arith) in
-    (K.rows, omega (arith, row_held r m K.from_room), omega (arith, row_held r m K.to_room))
 
 -- for a caller: what an answer of `choose` says
 pub chooses_at : {x : Chosen} {old new : List ℕ} {a : Option FirstCut} {f : FirstCut} → Chooses x old new a → a ≡ Some f → (t : List ℕ) × (x ≡ found f.row t f.cut) × (new ≡ over t old)

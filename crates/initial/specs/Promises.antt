@@ -1,9 +1,8 @@
 -- What the code answers, by the definitions.
-use Rattle.std.specs.Prelude.{ℕ, suc, Option, Some, None, ◌*◌, ◌-◌, ◌<◌, ◌≤◌, ◌≡◌, List, length, get_or, take}
-use Rattle.folds.specs.Fold.{over, part}
+use Rattle.std.specs.Prelude.{ℕ, suc, Option, Some, None, ◌*◌, ◌<◌, ◌≤◌, ◌≡◌, List, length, take}
+use Rattle.folds.specs.Fold.{over}
 use Rattle.graph.specs.Graph.{Graph, vertices, seen}
 use Rattle.graph.specs.Rows.{clusters, rows_in}
-use Rattle.graph.specs.Links.{Ended}
 use Rattle.graph.specs.Coarse.{LinkedAt}
 use Rattle.topology.specs.Order.{order_of}
 use Rattle.division_table.specs.Division.{Pick, none, some}
@@ -51,24 +50,6 @@ OrderOf G row order = take (clusters row) order ≡ order_of (seen G row) (clust
 pub record OrdersStored (G : Graph) (rows : ℕ → List ℕ) (top : ℕ) (orders : List ℕ) : Type 0 where
   pub long : suc top * vertices G ≤ length orders
   pub is : (r : ℕ) → r ≤ top → OrderOf G (rows r) (rows_in orders (vertices G) r)
-
--- the lists of the rows 0 to top lie in what is lent, and name clusters below 512
-pub record Linkable (m top : ℕ) (froms tos sizes : List ℕ) : Type 0 where
-  pub rows : top < 9
-  pub from_room : suc top * m ≤ length froms
-  pub to_room : suc top * m ≤ length tos
-  pub few : (r : ℕ) → r ≤ top → get_or sizes r 0 ≤ m
-  pub ended : (r : ℕ) → r ≤ top → Ended (part froms (r * m) (get_or sizes r 0)) (part tos (r * m) (get_or sizes r 0))
-
--- the edges of row r, as they lie there
-pub record RowEdges (m r : ℕ) (froms tos sizes starts ends : List ℕ) : Type 0 where
-  pub starts_are : starts ≡ part froms (r * m) (get_or sizes r 0)
-  pub ends_are : ends ≡ part tos (r * m) (get_or sizes r 0)
-  pub many : length starts ≡ get_or sizes r 0
-
--- the links are those of the row below row r, if there is one
-pub record LinkedBelow (m r : ℕ) (froms tos sizes head next : List ℕ) : Type 0 where
-  pub below : 0 < r → LinkedAt m (r - 1) froms tos sizes head next
 
 -- the links are those of the row that was cut
 pub record LinkedThere (m : ℕ) (froms tos sizes head next : List ℕ) (x : Option FirstCut) : Type 0 where

@@ -1,8 +1,8 @@
 // The initial partition: the least division of a row's topological order, on the highest row that has one.
 #![tactic(auto)]
 
-ghost use Rattle.std.specs.Prelude.{◌≡◌, ◌+◌, ◌*◌, ◌<◌, ◌≤◌, length, get_or};
-ghost use Rattle.folds.specs.Fold.{over, part};
+ghost use Rattle.std.specs.Prelude.{suc, ◌≡◌, ◌+◌, ◌*◌, ◌<◌, ◌≤◌, length};
+ghost use Rattle.folds.specs.Fold.{over};
 ghost use Rattle.graph.specs.Graph.{graph_of, Proper};
 ghost use Rattle.graph.specs.Lent.{graph_in};
 ghost use Rattle.graph.specs.Rows.{clusters, rows_in, Layer, Hierarchy};
@@ -11,12 +11,12 @@ ghost use Rattle.graph.specs.Totals.{Keyed};
 ghost use Rattle.division_table.specs.Promises.{best, within};
 ghost use Rattle.division_scan.specs.Placed.{leaving_in};
 ghost use Rattle.initial.specs.Initial.{roomy, parts_of, tabled, initial_of, chosen_of};
-ghost use Rattle.initial.specs.Promises.{DividedAs, Chooses, Borrowed, OrderOf, OrdersStored, Linkable, LinkedBelow, LinkedThere, RowEdges};
+ghost use Rattle.initial.specs.Promises.{DividedAs, Chooses, Borrowed, OrderOf, OrdersStored, LinkedThere};
 ghost use Rattle.initial.specs.Positions.{Once, Inverse};
 
 use division_scan::{Limits, PlacedEdges};
 use division_table::NO_CUT;
-use graph::{EdgeLinks, EdgeLists, LinkTable, Lists, Problem, StoredRows};
+use graph::{EdgeLinks, LinkTable, Lists, Problem, StoredRows};
 
 // The row that was cut, and its cut.
 #[derive(Clone, Copy)]
@@ -159,74 +159,64 @@ fn divide(
     )
 }
 
-// The joined edges of row r: they lie in what is stored of the rows from r × m on.
-fn row_edges(store: StoredRows<'_>, m: usize, r: usize) -> EdgeLists<'_>
-    requires { Linkable m r store.froms.now store.tos.now store.sizes.now }
-    ensures { RowEdges m r store.entry.froms.now store.entry.tos.now store.entry.sizes.now result.starts.now result.ends.now }
-{
-    let from = r * m;
-    let end = from + usize::from(store.sizes[r]);
-    EdgeLists {
-        starts: &store.froms[from..end],
-        ends: &store.tos[from..end],
-    }
+// The rows from the top one down, with what is stored of each, and the problem.
+#[derive(Clone, Copy)]
+struct Ladder<'a> {
+    problem: Problem<'a>,
+    rows: &'a [u16],
+    store: StoredRows<'a>,
+    top: usize,
+    ghost proper: { Proper (graph_in problem.lists) },
+    ghost orders_stored: { OrdersStored (graph_in problem.lists) (rows_in rows.now (length problem.lists.costs.now)) top store.orders.now },
+    ghost stored: { Stored (graph_in problem.lists) (rows_in rows.now (length problem.lists.costs.now)) top (length problem.lists.starts.now) store.froms.now store.tos.now store.wides.now store.sizes.now },
+    ghost held: { (suc top * length problem.lists.costs.now ≤ length rows.now) × (top < 9) },
 }
 
-// The initial partition of row r: its entries and its order lie from r × n on, the lists of its edges from r × m on.
-// stays: `Stored`, `Linkable`, `LinkedAt` are clauses: they follow from what `hierarchy` says of its store, and links are written here too.
+// The initial partition of row r: its entries and its order lie from r × n on, its edges from r × m on.
+// stays: `Layer` is a clause, and `Hierarchy` below: they name a vertex of each cluster, and what a field says has one proof.
+// stays: `LinkedAt` is a clause, here and below: links are written from row to row.
 fn divide_at(
-    problem: Problem<'_>,
-    rows: &[u16],
-    store: StoredRows<'_>,
-    table_of: &LinkTable,
+    ladder: Ladder<'_>,
     r: usize,
+    links: &LinkTable,
     table: &mut [u16],
 ) -> Option<u32>
-    requires proper { Proper (graph_in problem.lists) }
-    requires layer { Layer (graph_in problem.lists) (rows_in rows.now (length problem.lists.costs.now) r) }
-    requires orders_stored { OrdersStored (graph_in problem.lists) (rows_in rows.now (length problem.lists.costs.now)) r store.orders.now }
-    requires stored { Stored (graph_in problem.lists) (rows_in rows.now (length problem.lists.costs.now)) r (length problem.lists.starts.now) store.froms.now store.tos.now store.wides.now store.sizes.now }
-    requires linkable { Linkable (length problem.lists.starts.now) r store.froms.now store.tos.now store.sizes.now }
-    requires linked_at { LinkedAt (length problem.lists.starts.now) r store.froms.now store.tos.now store.sizes.now table_of.now.head table_of.now.next }
-    requires borrowed { Borrowed (length problem.lists.costs.now) problem.k r rows.now table.old }
-    ensures { DividedAs (initial_of (graph_in problem.entry.lists) problem.entry.k problem.entry.bound (rows_in rows.now (length problem.entry.lists.costs.now) r)) table.old table.new result }
+    requires r_bound { r ≤ ladder.top }
+    requires layer { Layer (graph_in ladder.problem.lists) (rows_in ladder.rows.now (length ladder.problem.lists.costs.now) r) }
+    requires linked_at { LinkedAt (length ladder.problem.lists.starts.now) r ladder.store.froms.now ladder.store.tos.now ladder.store.sizes.now links.now.head links.now.next }
+    requires k_nonzero { (0 < ladder.problem.k) × (ladder.problem.k ≤ 16) × (length ladder.problem.lists.costs.now ≤ length table.old) }
+    ensures { DividedAs (initial_of (graph_in ladder.entry.problem.lists) ladder.entry.problem.k ladder.entry.problem.bound (rows_in ladder.entry.rows.now (length ladder.entry.problem.lists.costs.now) r)) table.old table.new result }
 {
+    let Ladder {
+        problem,
+        rows,
+        store,
+        ..
+    } = ladder;
     let n = problem.lists.costs.len();
+    let m = problem.lists.starts.len();
     let at = r * n;
-    let from = r * problem.lists.starts.len();
-    let edges = row_edges(store, problem.lists.starts.len(), r);
-    let widths = &store.wides[from..from + edges.starts.len()];
-    let links = EdgeLinks {
-        edges,
-        table: table_of,
+    let edges = EdgeLinks {
+        edges: store.edges(m, r),
+        table: links,
     };
     divide(
         problem,
         &rows[at..at + n],
         &store.orders[at..at + n],
-        links,
-        widths,
+        edges,
+        store.widths(m, r),
         table,
     )
-}
-
-// The links of the row below row r, if there is one.
-fn link_below(store: StoredRows<'_>, m: usize, r: usize, links: &mut LinkTable)
-    requires { Linkable m r store.froms.now store.tos.now store.sizes.now }
-    ensures { LinkedBelow m r store.entry.froms.now store.entry.tos.now store.entry.sizes.now links.new.head links.new.next }
-{
-    if r > 0 {
-        graph::link_leaving(row_edges(store, m, r - 1), links);
-    }
 }
 
 // The initial partition: of the rows 0 to top, from the highest down, the first that has a division.
 // Of the entries that the store has in `orders` of row r the first are its clusters in topological order; the lists of its edges lie from r × m on.
 // The links are those of row top, and afterwards those of the row that was cut.
-pub fn choose(
-    problem: Problem<'_>,
-    rows: &[u16],
-    store: StoredRows<'_>,
+pub fn choose<'x>(
+    problem: Problem<'x>,
+    rows: &'x [u16],
+    store: StoredRows<'x>,
     links: &mut LinkTable,
     top: usize,
     table: &mut [u16],
@@ -240,11 +230,18 @@ pub fn choose(
     ensures chooses { Chooses (chosen_of (graph_in problem.entry.lists) problem.entry.k problem.entry.bound (rows_in rows.now (length problem.entry.lists.costs.now)) top) table.old table.new result }
     ensures linked_there { LinkedThere (length problem.entry.lists.starts.now) store.entry.froms.now store.entry.tos.now store.entry.sizes.now links.new.head links.new.next result }
 {
+    let ladder = Ladder {
+        problem,
+        rows,
+        store,
+        top,
+    };
+    let m = problem.lists.starts.len();
     for row in (0..top + 1).rev() {
-        if let Some(cut) = divide_at(problem, rows, store, links, row, table) {
+        store.link_row(m, row, top, links);
+        if let Some(cut) = divide_at(ladder, row, links, table) {
             return Some(FirstCut { row, cut });
         }
-        link_below(store, problem.lists.starts.len(), row, links);
     }
     None
 }

@@ -7,8 +7,6 @@ use lib.ListN.{length, take, drop}
 use Rattle.folds.specs.Fold.{over}
 use Rattle.graph.specs.Graph.{Graph, vertices, cut_of, Proper}
 use Rattle.graph.specs.Rows.{clusters, Hierarchy, rows_in}
-use Rattle.graph.specs.Coarse.{Stored}
-use Rattle.graph.proofs.Coarse.{stored_held}
 use Rattle.graph.specs.Table.{Good}
 use Rattle.refinement.specs.Entries.{state_of, GoodAt}
 use Rattle.refinement.specs.Pass.{Tally, tally_of, refined_on, refined_below, refined}
@@ -19,8 +17,7 @@ use Rattle.part_sums.specs.declared.PartSums.{PartSums}
 use Rattle.pass.specs.declared.Progress.{Progress}
 use Rattle.refine.specs.Rung.{RowReady, Tracks, RefinedRow}
 use Rattle.refine.specs.declared.Outcome.{Outcome}
-use Rattle.refine.specs.Down.{RowLists, Descends, Refined}
-use Rattle.refine.proofs.Rung.{coarse_ended}
+use Rattle.refine.specs.Down.{Descends, Refined}
 
 -- the rungs below r are still to come, and make R of the table
 pub record Descent (G : Graph) (k bound : ℕ) (rows : ℕ → List ℕ) (top : ℕ) (R : Tally) (r : ℕ) (parts : List ℕ) (moves : ℕ) : Type 0 where
@@ -85,10 +82,6 @@ module _ (G : Graph) (P : Proper G) (k bound : ℕ) (few : k ≤ 16) (rows : ℕ
     pub descent_end : r ≡ 0 → tally_of parts moves ≡ R
     unfolding refined_below
     descent_end e = rw e at x.rest
-
--- the lists of the highest row
-pub stored_lists : {G : Graph} {rows : ℕ → List ℕ} {r m : ℕ} {froms tos widths sizes : List ℕ} → Stored G rows r m froms tos widths sizes → clusters (rows r) ≤ 512 → RowLists m r froms tos sizes
-stored_lists {r = r} S few = let (f, t, w) = stored_held S in record { from_in = f; to_in = t; ends = coarse_ended (S.is r (omega arith)) few }
 
 -- the caller's table, of which the front was refined
 pub front_refined : {G : Graph} {k bound : ℕ} {rows : List ℕ} {rung : ℕ} (table : List ℕ) → Descends G k bound rows rung (take (vertices G) table)

@@ -114,14 +114,6 @@ module _ (G : Graph) (P : Proper G) (k bound : ℕ) (few : k ≤ 16) (row costs 
 
 -- the lists of a row name clusters below 512, and none of its edges stays in one: those that leave each are those whose start it is
 module _ {G : Graph} {row : List ℕ} {g : ℕ} {froms tos widths : List ℕ} (C : Coarse G row g froms tos widths) where
-  pub coarse_ended : g ≤ 512 → Ended froms tos
-  coarse_ended few =
-      record {
-        from = record { few = C.few; low = λ i l. omega (arith, C.from_in i l) };
-        to = record { few = omega (arith, C.few, C.same_ends); low = λ i l. omega (arith, C.to_in i (omega (arith, C.same_ends))) };
-        same = C.same_ends;
-      }
-
   pub coarse_indexed : {head next head_in next_into : List ℕ} → Linked (leave (joining froms tos)) (length froms) head next
       → Linked (leave (joining tos froms)) (length tos) head_in next_into → Indexed froms tos head next head_in next_into
   coarse_indexed out into =

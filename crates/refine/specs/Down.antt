@@ -8,12 +8,6 @@ use Rattle.graph.specs.Table.{Good}
 use Rattle.refinement.specs.Pass.{refined}
 use Rattle.refine.specs.declared.Outcome.{Outcome}
 
--- the lists that are stored of row r lie in those lent, and name clusters below 512
-pub record RowLists (m r : ℕ) (froms tos sizes : List ℕ) : Type 0 where
-  pub from_in : r * m + get_or sizes r 0 ≤ length froms
-  pub to_in : r * m + get_or sizes r 0 ≤ length tos
-  pub ends : Ended (part froms (r * m) (get_or sizes r 0)) (part tos (r * m) (get_or sizes r 0))
-
 -- a table that is good on a rung of the ladder
 pub record Descends (G : Graph) (k bound : ℕ) (rows : List ℕ) (rung : ℕ) (parts : List ℕ) : Type 0 where
   pub proper : Proper G

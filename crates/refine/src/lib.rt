@@ -7,7 +7,7 @@ ghost use Rattle.graph.specs.Lent.{graph_in};
 ghost use Rattle.graph.specs.Rows.{rows_in};
 ghost use Rattle.graph.specs.Coarse.{Stored, LinkedAt};
 ghost use Rattle.refinement.specs.Pass.{tally_of, refined};
-ghost use Rattle.refine.specs.Down.{RowLists, Descends, Refined};
+ghost use Rattle.refine.specs.Down.{Descends, Refined};
 ghost use Rattle.refine.specs.Rung.{RowReady, Tracks, Settled, RefinedRow};
 ghost use Rattle.refine.specs.Tables.{Shared, Inherits};
 
@@ -108,37 +108,17 @@ fn refine_at(
     let n = ladder.lists.costs.len();
     let m = ladder.lists.starts.len();
     let a = r * n;
-    let b = r * m;
-    let e = b + usize::from(ladder.store.sizes[r]);
+    let edges = ladder.store.edges(m, r);
     let joined = JoinedRow {
         lists: ladder.lists,
         bound: ladder.bound,
         row: &ladder.rows[a..a + n],
-        from: &ladder.store.froms[b..e],
-        to: &ladder.store.tos[b..e],
-        widths: &ladder.store.wides[b..e],
+        from: edges.starts,
+        to: edges.ends,
+        widths: ladder.store.widths(m, r),
         links,
     };
     refine_row(joined, parts, before)
-}
-
-// Fills the links for row r, whose lists lie from r × m on, where this is not the rung for which they are lent.
-fn link_row(ladder: Ladder<'_>, r: usize, links: &mut LinkTable)
-    requires row_lists { RowLists (length ladder.lists.starts.now) r ladder.store.froms.now ladder.store.tos.now ladder.store.sizes.now }
-    requires r_bound { r < 9 }
-    requires linked_at { r ≡ ladder.rung → LinkedAt (length ladder.lists.starts.now) r ladder.store.froms.now ladder.store.tos.now ladder.store.sizes.now links.old.head links.old.next }
-    ensures { LinkedAt (length ladder.entry.lists.starts.now) r ladder.entry.store.froms.now ladder.entry.store.tos.now ladder.entry.store.sizes.now links.new.head links.new.next }
-{
-    if r == ladder.rung {
-        return;
-    }
-    let a = r * ladder.lists.starts.len();
-    let e = a + usize::from(ladder.store.sizes[r]);
-    let edges = EdgeLists {
-        starts: &ladder.store.froms[a..e],
-        ends: &ladder.store.tos[a..e],
-    };
-    graph::link_leaving(edges, links);
 }
 
 // What a refinement answers.
@@ -162,6 +142,7 @@ fn refine_down(
     ensures moves_after { tally_of parts.new result.moves ≡ refined (graph_in ladder.entry.lists) k ladder.entry.bound (rows_in ladder.entry.rows.now (length ladder.entry.lists.costs.now)) ladder.entry.rung parts.old }
     ensures cut_value_2 { result.cut ≡ cut_of (graph_in ladder.entry.lists) parts.new }
 {
+    let m = ladder.lists.starts.len();
     let sums = PartSums::of_table(ladder.lists.costs, parts, k);
     let mut p = Progress {
         sums,
@@ -170,7 +151,7 @@ fn refine_down(
         moved: false,
     };
     for r in (0..ladder.rung + 1).rev() {
-        link_row(ladder, r, links);
+        ladder.store.link_row(m, r, ladder.rung, links);
         p = refine_at(ladder, r, links, parts, p);
     }
     Outcome {

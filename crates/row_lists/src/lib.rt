@@ -11,6 +11,7 @@ use graph::{Lists, RowStore, StoredRows};
 use joined_edges::{Joined, RowEdges};
 
 // The new number, one of `after`, of each of the `before` clusters of a row.
+// stays: `before` beside the array, for which a slice of its front would do: `Maps`, `Next`, `Merged` and `Renamed` speak of the array, and each would need a law of its front.
 #[derive(Clone, Copy)]
 pub struct Renaming<'a> {
     pub map: &'a [u16; 512],

@@ -1,19 +1,25 @@
 -- Row r and its lists lie in what is lent, and are the parts that are handed on.
 use Rattle.folds.proofs.Slices.{slice_part}
 use Prim.Native.Nat.{◌*◌}
-use lib.ListN.{length, get_or}
+use lib.ListN.{length}
 use native.Mathlib.Omega.{arith}
+use Rattle.graph.proofs.Coarse.{stored_lists, stored_widths}
+use Rattle.refine.proofs.Rung.{ready_few}
 use Rattle.refine.proofs.refine_at.Goals as goal
+
+pub edges-edges-requires-clause-row_lists : goal.edges-edges-requires-clause-row_lists
+edges-edges-requires-clause-row_lists c = stored_lists _ c.requires.r_bound c.args.ladder.stored (ready_few c.requires.row_ready)
+
+pub widths-requires : goal.widths-requires
+widths-requires c = (omega arith, stored_widths _ c.requires.r_bound c.args.ladder.stored)
 
 pub invariant_of-joined : goal.invariant_of-joined
 invariant_of-joined c =
-    let n = length c.args.ladder.lists.costs.now in
-    let b = c.args.r * length c.args.ladder.lists.starts.now in
-    let z = get_or c.args.ladder.store.sizes.now c.args.r 0 in
-    let R = slice_part c.args.ladder.rows.now (c.args.r * n) n in
+    let E = c.edges-edges.ensures in
+    let R = slice_part c.args.ladder.rows.now (c.args.r * length c.args.ladder.lists.costs.now) (length c.args.ladder.lists.costs.now) in
     record {
-      coarse = rw (c.from.ensures, R, slice_part c.args.ladder.store.froms.now b z, slice_part c.args.ladder.store.tos.now b z, slice_part c.args.ladder.store.wides.now b z) (c.args.ladder.stored.is c.args.r (omega arith));
-      linked = rw (c.from.ensures, slice_part c.args.ladder.store.froms.now b z, slice_part c.args.ladder.store.tos.now b z) c.requires.linked_at.linked;
+      coarse = rw (R, E.starts, E.ends, c.widths.ensures) (c.args.ladder.stored.is c.args.r c.requires.r_bound);
+      linked = rw (E.starts, E.ends) c.requires.linked_at.linked;
     }
 
 pub refine_row-requires-clause-row_ready : goal.refine_row-requires-clause-row_ready

@@ -1,6 +1,6 @@
-use Rattle.graph.proofs.Coarse.{lower_stored}
+use Rattle.graph.proofs.Coarse.{stored_lists}
 use Rattle.refine.proofs.Rung.{ready_few}
-use Rattle.refine.proofs.Down.{stored_lists, descent_start, descent_at, descent_next, descent_end}
+use Rattle.refine.proofs.Down.{descent_start, descent_at, descent_next, descent_end}
 use native.Mathlib.Omega.{arith}
 use Rattle.refine.proofs.refine_down.Goals as goal
 
@@ -19,7 +19,7 @@ loop-r-preserved c = let I = c.loop-r.invariant in
 pub link_row-requires-clause-row_lists : goal.link_row-requires-clause-row_lists
 link_row-requires-clause-row_lists c = let I = c.loop-r.invariant in
     let (a, s) = descent_at _ c.requires.descends.proper _ _ c.requires.descends.few _ _ c.requires.descends.hierarchy _ _ _ _ I.descent c.loop-r-test.true I.tracks in
-    stored_lists (lower_stored _ (omega (arith, I.descent.within)) c.args.ladder.stored) (ready_few a)
+    stored_lists _ (omega (arith, I.descent.within)) c.args.ladder.stored (ready_few a)
 
 pub returns-clause-moves_after : goal.returns-clause-moves_after
 returns-clause-moves_after c = descent_end _ c.requires.descends.proper _ _ c.requires.descends.few _ _ c.requires.descends.hierarchy _ _ _ _ c.loop-r.invariant.descent (omega arith)

@@ -1,4 +1,5 @@
-use Rattle.refine.proofs.Rung.{coarse_ended, coarse_indexed, ready_few, ready_keyed, ready_drawn, ready_stands, stands_fall, stands_turn, stands_end}
+use Rattle.graph.proofs.Coarse.{coarse_ended}
+use Rattle.refine.proofs.Rung.{coarse_indexed, ready_few, ready_keyed, ready_drawn, ready_stands, stands_fall, stands_turn, stands_end}
 use Rattle.refine.proofs.Bridge.{pass_visitable}
 use Rattle.pass.specs.Work.{work_of}
 use Rattle.graph.proofs.Totals.{zero_sums}
