@@ -1,5 +1,5 @@
 -- One step of the loop over the rounds: what it asks for, and what is carried after it.
-use Prim.Native.Nat.{ℕ, suc, ◌+◌, ◌-◌, ◌*◌, ◌≤◌, ◌<◌}
+use Prim.Native.Nat.{ℕ, ◌+◌, ◌*◌, ◌≤◌, ◌<◌}
 use mathlib.Core.Path.{◌≡◌, refl, sym, ap, ◌∙◌}
 use mathlib.Core.List.{List}
 use native.Mathlib.Nat.{suc-mul, mul-le-mul_right}
@@ -7,7 +7,7 @@ use native.Mathlib.Omega.{arith}
 use lib.ListN.{length, get_or, take, length-set}
 use lib.Seq.{get_or-take}
 use Rattle.std.specs.Prelude.{Some, None}
-use Rattle.folds.specs.Fold.{sum_to, over, put, part, zeros, most_cost}
+use Rattle.folds.specs.Fold.{sum_to, over, put, part, most_cost}
 use Rattle.folds.proofs.Cases.{by, either, eq_or_ne}
 use Rattle.folds.proofs.Sums.{sum_to_ext}
 use Rattle.folds.proofs.Slices.{length_part, length-put, length_over, take-over}

@@ -1,10 +1,9 @@
 -- The loop over the rows, from the highest down.
-use Prim.Native.Nat.{ℕ, suc, ◌+◌, ◌-◌, ◌*◌, ◌≤◌, ◌<◌}
+use Prim.Native.Nat.{ℕ, suc, ◌+◌, ◌-◌, ◌<◌}
 use mathlib.Core.Path.{◌≡◌, refl, ap, sym, ◌∙◌}
 use mathlib.Core.List.{List}
 use native.Mathlib.Numerals.{add-one}
 use native.Mathlib.Omega.{arith}
-use lib.ListN.{length}
 use Rattle.folds.specs.Fold.{over}
 use Rattle.graph.specs.Graph.{Graph}
 use Rattle.graph.specs.Coarse.{LinkedAt}

@@ -173,14 +173,9 @@ struct Ladder<'a> {
 }
 
 // The initial partition of row r: its entries and its order lie from r × n on, its edges from r × m on.
-// stays: `Layer` is a clause, and `Hierarchy` below: they name a vertex of each cluster, and what a field says has one proof.
+// stays: `Layer` is a clause, and `Hierarchy` below: they give a vertex of each cluster, and the fact of a field gives no data.
 // stays: `LinkedAt` is a clause, here and below: links are written from row to row.
-fn divide_at(
-    ladder: Ladder<'_>,
-    r: usize,
-    links: &LinkTable,
-    table: &mut [u16],
-) -> Option<u32>
+fn divide_at(ladder: Ladder<'_>, r: usize, links: &LinkTable, table: &mut [u16]) -> Option<u32>
     requires r_bound { r ≤ ladder.top }
     requires layer { Layer (graph_in ladder.problem.lists) (rows_in ladder.rows.now (length ladder.problem.lists.costs.now) r) }
     requires linked_at { LinkedAt (length ladder.problem.lists.starts.now) r ladder.store.froms.now ladder.store.tos.now ladder.store.sizes.now links.now.head links.now.next }

@@ -6,7 +6,7 @@ use native.Mathlib.Omega.{arith}
 use lib.ListN.{length, take, drop}
 use Rattle.folds.specs.Fold.{over}
 use Rattle.graph.specs.Graph.{Graph, vertices, cut_of, Proper}
-use Rattle.graph.specs.Rows.{clusters, Hierarchy, rows_in}
+use Rattle.graph.specs.Rows.{Hierarchy, rows_in}
 use Rattle.graph.specs.Table.{Good}
 use Rattle.refinement.specs.Entries.{state_of, GoodAt}
 use Rattle.refinement.specs.Pass.{Tally, tally_of, refined_on, refined_below, refined}

@@ -10,7 +10,7 @@ use Rattle.folds.specs.Fold.{turns, over}
 use Rattle.folds.proofs.Slices.{over_whole}
 use Rattle.folds.proofs.Cases.{pick_yes, pick_no}
 use Rattle.graph.specs.Graph.{Graph, vertices, joining, through, Proper}
-use Rattle.graph.specs.Links.{Linked, Ended, leave}
+use Rattle.graph.specs.Links.{Linked, leave}
 use Rattle.graph.specs.Coarse.{Coarse}
 use Rattle.graph.specs.Rows.{clusters}
 use Rattle.graph.proofs.Edges.{length-through}

@@ -1,8 +1,7 @@
 -- What the refinement down the rungs asks for and answers.
-use Rattle.std.specs.Prelude.{ℕ, suc, ◌+◌, ◌*◌, ◌≤◌, ◌≡◌, List, length, get_or, take}
-use Rattle.folds.specs.Fold.{over, part}
+use Rattle.std.specs.Prelude.{ℕ, suc, ◌*◌, ◌≤◌, ◌≡◌, List, length, take}
+use Rattle.folds.specs.Fold.{over}
 use Rattle.graph.specs.Graph.{Graph, vertices, cut_of, Proper}
-use Rattle.graph.specs.Links.{Ended}
 use Rattle.graph.specs.Rows.{rows_in, Hierarchy}
 use Rattle.graph.specs.Table.{Good}
 use Rattle.refinement.specs.Pass.{refined}

@@ -13,7 +13,7 @@ ghost use Rattle.refine.specs.Tables.{Shared, Inherits};
 
 mod row;
 
-use graph::{EdgeLists, LinkTable, Lists, Problem, StoredRows};
+use graph::{EdgeLinks, EdgeLists, LinkTable, Lists, Problem, StoredRows};
 use neighbours::{LinkedEdges, Mark, Numbers, PartTable};
 use part_sums::PartSums;
 use pass::{Progress, Row};
@@ -35,13 +35,10 @@ fn settle(joined: JoinedRow<'_>, table: &mut PartTable, before: Progress) -> Pro
     requires row_ready { RowReady (graph_in joined.lists) before.sums.count joined.bound joined.row.now (through joined.row.now table.old.parts) before.moves }
     ensures { Settled (graph_in joined.entry.lists) before.sums.count joined.entry.bound joined.entry.row.now table.old.parts before.moves table.new.parts result }
 {
-    let out = EdgeLists {
-        starts: joined.from,
-        ends: joined.to,
-    };
+    let out = joined.links.edges;
     let back = EdgeLists {
-        starts: joined.to,
-        ends: joined.from,
+        starts: out.ends,
+        ends: out.starts,
     };
     let mut into = LinkTable {
         head: [0u16; 513],
@@ -58,9 +55,9 @@ fn settle(joined: JoinedRow<'_>, table: &mut PartTable, before: Progress) -> Pro
     };
     neighbours::survey(out, table, before.sums.count, g, &mut numbers);
     let edges = LinkedEdges {
-        from: joined.from,
-        to: joined.to,
-        out: joined.links,
+        from: out.starts,
+        to: out.ends,
+        out: joined.links.table,
         into: &into,
     };
     let row = Row {
@@ -92,10 +89,10 @@ fn refine_row(joined: JoinedRow<'_>, parts: &mut [u16], before: Progress) -> Pro
 }
 
 // The refinement on row r: the part of the ladder from r × n on, with the lists of its edges, the parts of the lists from r × m on.
-fn refine_at(
-    ladder: Ladder<'_>,
+fn refine_at<'x>(
+    ladder: Ladder<'x>,
     r: usize,
-    links: &LinkTable,
+    links: &'x LinkTable,
     parts: &mut [u16],
     before: Progress,
 ) -> Progress
@@ -108,15 +105,16 @@ fn refine_at(
     let n = ladder.lists.costs.len();
     let m = ladder.lists.starts.len();
     let a = r * n;
-    let edges = ladder.store.edges(m, r);
+    let links = EdgeLinks {
+        edges: ladder.store.edges(m, r),
+        table: links,
+    };
     let joined = JoinedRow {
         lists: ladder.lists,
         bound: ladder.bound,
         row: &ladder.rows[a..a + n],
-        from: edges.starts,
-        to: edges.ends,
-        widths: ladder.store.widths(m, r),
         links,
+        widths: ladder.store.widths(m, r),
     };
     refine_row(joined, parts, before)
 }

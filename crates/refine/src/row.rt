@@ -1,13 +1,11 @@
 // The rungs that are refined, and the row of one of them.
 
 ghost use Rattle.std.specs.Prelude.{suc, ◌*◌, ◌<◌, ◌≤◌, length};
-ghost use Rattle.graph.specs.Graph.{joining};
 ghost use Rattle.graph.specs.Rows.{clusters, rows_in};
-ghost use Rattle.graph.specs.Links.{Linked, leave};
 ghost use Rattle.graph.specs.Coarse.{Coarse, Stored};
 ghost use Rattle.graph.specs.Lent.{graph_in};
 
-use graph::{LinkTable, Lists, StoredRows};
+use graph::{EdgeLinks, Lists, StoredRows};
 
 // The rows from a rung down with what is stored of each, and the bound of a part.
 #[derive(Clone, Copy)]
@@ -21,7 +19,7 @@ pub struct Ladder<'a> {
     ghost held: { (suc rung * length lists.costs.now ≤ length rows.now) × (rung < 9) },
 }
 
-// One row: each vertex's cluster, the joined edges with their widths, and the links of those that leave each cluster. The graph's own edges are lent
+// One row: each vertex's cluster, the joined edges with the links of those that leave each cluster, and their widths. The graph's own edges are lent
 // for the contracts alone.
 // stays: that a table is good on the row and that the sums are its own are clauses (`RowReady`, `Tracks`): the table is written and the sums are handed on.
 #[derive(Clone, Copy)]
@@ -29,10 +27,7 @@ pub struct JoinedRow<'a> {
     pub lists: Lists<'a>,
     pub bound: u32,
     pub row: &'a [u16],
-    pub from: &'a [u16],
-    pub to: &'a [u16],
+    pub links: EdgeLinks<'a, 'a>,
     pub widths: &'a [u32],
-    pub links: &'a LinkTable,
-    ghost coarse: { Coarse (graph_in lists) row.now (clusters row.now) from.now to.now widths.now },
-    ghost linked: { Linked (leave (joining from.now to.now)) (length from.now) links.now.head links.now.next },
+    ghost coarse: { Coarse (graph_in lists) row.now (clusters row.now) links.edges.starts.now links.edges.ends.now widths.now },
 }

@@ -1,4 +1,3 @@
-use Rattle.graph.proofs.Coarse.{coarse_ended}
 use Rattle.refine.proofs.Rung.{coarse_indexed, ready_few, ready_keyed, ready_drawn, ready_stands, stands_fall, stands_turn, stands_end}
 use Rattle.refine.proofs.Bridge.{pass_visitable}
 use Rattle.pass.specs.Work.{work_of}
@@ -9,7 +8,7 @@ use native.Mathlib.Omega.{arith}
 use Rattle.refine.proofs.settle.Goals as goal
 
 pub invariant_of-back : goal.invariant_of-back
-invariant_of-back c = record { ended = ended_back (coarse_ended c.args.joined.coarse (ready_few c.requires.row_ready)) }
+invariant_of-back c = record { ended = ended_back c.args.joined.links.edges.ended }
 
 pub sum_costs-requires : goal.sum_costs-requires
 sum_costs-requires c = record {
@@ -22,8 +21,8 @@ survey-requires c = (c.requires.row_ready.few, omega (arith, c.cluster_count-g.e
 
 pub invariant_of-edges : goal.invariant_of-edges
 invariant_of-edges c = record {
-  ended = coarse_ended c.args.joined.coarse (ready_few c.requires.row_ready);
-  indexed = coarse_indexed c.args.joined.coarse c.args.joined.linked c.link_leaving.ensures;
+  ended = c.args.joined.links.edges.ended;
+  indexed = coarse_indexed c.args.joined.coarse c.args.joined.links.linked c.link_leaving.ensures;
 }
 
 pub loop-p-init : goal.loop-p-init

@@ -13,10 +13,10 @@ use Rattle.refine.proofs.settle.Given as goal
 abbrev pub invariant-loop-p : goal.invariant-loop-p
 invariant-loop-p l = record {
   whole : l.g ≡ clusters l.joined.row.now;
-  drawn : Drawn (graph_in l.joined.lists) l.joined.row.now l.row.1.1.0.now l.joined.from.now l.joined.to.now l.joined.widths.now;
+  drawn : Drawn (graph_in l.joined.lists) l.joined.row.now l.row.1.1.0.now l.joined.links.edges.starts.now l.joined.links.edges.ends.now l.joined.widths.now;
   stands : Stands (graph_in l.joined.lists) l.initial.p.sums.count l.joined.bound l.joined.row.now
       (refined_on (graph_in l.joined.lists) l.initial.p.sums.count l.joined.bound l.joined.row.now (tally_of (through l.joined.row.now l.initial.table.parts) l.initial.p.moves)) (work_of l.table.parts l.p);
-  known : Known l.joined.from.now l.joined.to.now l.table.parts l.initial.p.sums.count l.numbers.low l.numbers.high l.numbers.marks;
+  known : Known l.joined.links.edges.starts.now l.joined.links.edges.ends.now l.table.parts l.initial.p.sums.count l.numbers.low l.numbers.high l.numbers.marks;
 }
 
 abbrev pub decreases-loop-p : goal.decreases-loop-p
