@@ -68,6 +68,7 @@ fn digit_of(d: usize) -> u8
 }
 
 // How many digits a number has.
+// stays: `as`, here and in other crates: std has no `From` from u32 to usize, and where it narrows, the number is proved to fit.
 pub fn width(v: usize) -> usize
     ensures { Width v result }
 {
