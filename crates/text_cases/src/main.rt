@@ -154,7 +154,11 @@ fn answers(rt: &impl Print) -> io::Result<()> {
     order::<87>(rt, "order, one byte short")?;
     refusal::<31>(rt, "refusal", Cause::Uncut.at(0))?;
     refusal::<30>(rt, "refusal, one byte short", Cause::Uncut.at(0))?;
-    refusal::<60>(rt, "refusal at the highest place", Cause::Line.at(usize::MAX))?;
+    refusal::<60>(
+        rt,
+        "refusal at the highest place",
+        Cause::Line.at(usize::MAX),
+    )?;
     refusal::<0>(rt, "refusal into no bytes", Cause::Room.at(0))
 }
 
