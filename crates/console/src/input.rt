@@ -7,6 +7,7 @@ use std::io::Read;
 pub const SPACE: usize = 65_537;
 
 // One read, after the bytes that are there already, and how many are there then.
+// stays: a buffer and how much of it is filled, since there is no heap.
 fn read_more(from: &mut impl Read, buf: &mut [u8], at: usize) -> io::Result<usize>
     ensures kept { length buf.new ≡ length buf.old }
     ensures within { IfOk result (λ n. n ≤ length buf.old) }

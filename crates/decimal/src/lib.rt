@@ -8,7 +8,7 @@ ghost use Rattle.decimal.specs.Read.{more_of, number_of, starts_of, field_of};
 // Numbers in base ten, read from a text and written into a buffer.
 
 // A number that is read has the place after it beside it; where none stands, there is `None`.
-// stays: the place goes beside the text: a type of both would be answered anew by each reader, with a clause that its text is the same.
+// stays: the place goes beside the text, here and below: a type of both would be answered anew by each reader, with a clause that its text is the same.
 
 // The digits from a place on, after those of first.
 fn more(text: &[u8], from: usize, first: u32, most: u32) -> Option<(u32, usize)>
@@ -68,7 +68,7 @@ fn digit_of(d: usize) -> u8
 }
 
 // How many digits a number has.
-// stays: `as`, here and in other crates: std has no `From` from u32 to usize, and where it narrows, the number is proved to fit.
+// stays: `as`, here and in other crates: std has no `From` from u32 to usize nor from an enum to its number, and where it narrows, the number is proved to fit.
 pub fn width(v: usize) -> usize
     ensures { Width v result }
 {
@@ -76,7 +76,7 @@ pub fn width(v: usize) -> usize
 }
 
 // Writes a number in base ten at a place, and returns the place past it.
-// stays: the place goes beside the buffer, as beside the text in reading: with a type of both a clause would still name each, old and new.
+// stays: the place goes beside the buffer, here and below, as beside the text in reading: with a type of both a clause would still name each, old and new.
 pub fn show(buf: &mut [u8], at: usize, v: usize) -> usize
     requires { at + length (decimal v) ≤ length buf.old }
     ensures { Puts buf.old at (decimal v) buf.new result }
@@ -91,6 +91,7 @@ pub fn show(buf: &mut [u8], at: usize, v: usize) -> usize
 }
 
 // Copies a word to a place, and returns the place past it.
+// stays: `row_lists::copy` but for the place past it, which what is written next needs, and for what each promises of the rest.
 pub fn copy(buf: &mut [u8], at: usize, word: &[u8]) -> usize
     requires { at + length word.now ≤ length buf.old }
     ensures { Puts buf.old at word.now buf.new result }

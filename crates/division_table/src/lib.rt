@@ -104,7 +104,7 @@ fn offer<const N: usize>(cut: &[u32], e: End, from: usize, most: u32, best: &mut
 // The lanes of from + 1 starts on after y: over the ends of its interval, as far as it is within the bound. Ends whose offers are at or above
 // every lane change nothing.
 // stays: a `while`: the next end is the one at which `pass_over` stops.
-// stays: `Table` is a clause, here and below and in `division_scan`: the cuts are a slice that is written between.
+// stays: `Table` is a clause, here and below and in `division_scan`: the cuts are a slice, lent to some to write and to others to read, and a type would be one of both.
 fn reach<const N: usize>(w: Weights<'_>, from: usize, cut: &[u32]) -> [u32; N]
     requires table { Table w.g cut.now }
     requires from_bound { from + N ≤ 16 }
@@ -132,7 +132,7 @@ fn fill<const N: usize>(w: Weights<'_>, from: usize, cut: &mut [u32])
 }
 
 // The same for n lanes by a loop over a fixed number of them, some of which are not wanted: that is quicker.
-// stays: a `match`: a const parameter is a number in the text, so that each size is a call of its own.
+// stays: a `match`, and an `if` for each size in other crates: a const parameter is a number in the text, so that each size is a call of its own.
 fn fill_fixed(w: Weights<'_>, from: usize, n: usize, cut: &mut [u32])
     requires table { Table w.g cut.old }
     requires n_bound { n ≤ 16 - from }

@@ -36,7 +36,7 @@ pub struct EdgeLists<'a> {
 }
 
 // For each key the first edge that has it, and after each edge the next of the same key.
-// stays: a list ends at the number of edges, as in the definition (`Hop`): entries are 16-bit numbers, which an `Option` would not be.
+// stays: lists of numbers of edges, of fixed size, since there is no heap; a list ends at how many there are: entries have 16 bits, which an `Option` has not.
 #[derive(Clone, Copy)]
 pub struct LinkTable {
     pub head: [u16; 513],
@@ -181,7 +181,7 @@ pub fn end_at(ends: &[u16], i: usize) -> usize
 }
 
 // The cluster that edge j leaves, or 512 where it has one cluster at both ends.
-// stays: 512 for none: `head` has a place for it, so that a write needs no branch.
+// stays: 512 for none: `head` has a place for it, so that `link_leaving` needs no case for none.
 fn leaving_at(edges: EdgeLists<'_>, j: usize) -> usize
     requires { j < length edges.starts.now }
     ensures { Leaves (joining edges.entry.starts.now edges.entry.ends.now) j result }
@@ -205,7 +205,7 @@ pub fn link_leaving(edges: EdgeLists<'_>, links: &mut LinkTable)
 }
 
 // The width of edge j where its ends lie in different parts, else 0.
-// stays: a table and three lists, here and in `cut_of`: `Joins` speaks of both, and a type of both would be built for one caller.
+// stays: a table and three lists, here and in `cut_of`: `Joins` speaks of both; a type of both would be built for one caller (`joined_edges` has one of wider widths).
 pub fn crossing(parts: &[u16], starts: &[u16], ends: &[u16], widths: &[u16], j: usize) -> u32
     requires joins { Joins parts.now starts.now ends.now }
     requires j_in_bounds { (j < length starts.now) × (length widths.now ≡ length starts.now) }

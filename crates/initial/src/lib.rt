@@ -107,6 +107,7 @@ fn solve(
         after: &after,
     };
     // a smaller table of cuts where there are few positions
+    // stays: an `if` for the size, as in `division_table::fill_fixed`
     if g <= 64 {
         search::<1105>(places, edges, limits, n, table)
     } else {

@@ -79,7 +79,7 @@ fn emit(links: RowLinks<'_, '_>, g: usize, u: usize, sums: &mut [u32; 512], join
 }
 
 // The cluster that edge j leaves, or 512 where both its ends lie in one.
-// stays: 512 for none, as in `graph::leaving_at`, of which this is a twin but for the row: `head` has a place for it, so that a write needs no branch.
+// stays: 512 for none, as in `graph::leaving_at`, of which this is a twin but for the row: `head` has a place for it, so that no case is needed.
 fn leaves(edges: RowEdges<'_>, j: usize) -> usize
     requires { j < length edges.starts.now }
     ensures { Leaves (arcs_in edges.entry) j result }

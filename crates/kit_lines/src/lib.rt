@@ -36,6 +36,7 @@ pub enum Kind {
 impl From<u8> for Kind {
     ghost from_gives = { λ letter kind. kind ≡ kind_of letter };
 
+    // stays: a `match` on a byte: this is where one becomes a kind.
     fn from(letter: u8) -> Kind
         ensures { result ≡ kind_of letter }
     {

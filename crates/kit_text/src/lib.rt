@@ -77,6 +77,7 @@ fn write_costs(text: &[u8], at: usize, costs: &mut [u16])
 }
 
 // stays: a loop of its own, for three lists of one reading; `write_entries` would read each line three times.
+// stays: text and place apart, here and above: they are a `Layout`'s, and a `KitReader` of both would be made to be taken apart.
 fn write_wires(text: &[u8], at: usize, starts: &mut [u16], ends: &mut [u16], widths: &mut [u16])
     requires { (length (wires_at text.now at) ≤ length starts.old) × (length (wires_at text.now at) ≤ length ends.old) × (length (wires_at text.now at) ≤ length widths.old) }
     ensures starts_after { starts.new ≡ over (column 0 (wires_at text.now at)) starts.old }

@@ -19,7 +19,7 @@ pub struct Run {
 }
 
 // The numbers of the line at a place, each after its word, and the place past what closes the line.
-// stays: the place goes beside the text, as in `decimal`.
+// stays: the place goes beside the text, here and below, as in `decimal`.
 pub fn read<const N: usize>(
     text: &[u8],
     at: usize,

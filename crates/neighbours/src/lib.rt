@@ -24,6 +24,7 @@ pub enum Mark {
 impl From<u8> for Mark {
     ghost from_gives = { λ byte mark. mark ≡ mark_by byte };
 
+    // stays: a `match` on a byte: this is where one becomes a mark.
     fn from(byte: u8) -> Mark
         ensures { result ≡ mark_by byte }
     {
@@ -44,7 +45,8 @@ pub struct PartTable {
 
 // What is kept of each cluster: the lowest part of a successor, one more than the highest of a predecessor, and its mark.
 // stays: the count of parts and 0 say that there is none: as bounds they are right as they stand (`own < low`, `high <= own`), where an Option would be
-// tested first, and a sweep and a walk take the lower and the higher with no branch.
+// tested first.
+// stays: a list for each: a move is lent the first two to read and the marks to write (`rouse`).
 // stays: that they are right (`Known`) is a clause, since it speaks of the edges and of the table too, which a move writes between two writes of these.
 #[derive(Drop)]
 pub struct Numbers {

@@ -63,6 +63,7 @@ fn phases<const M: usize>(
 }
 
 // The phases, on arrays of the call's size: few edges, less to clear.
+// stays: an `if` for the size, as in `division_table::fill_fixed`.
 fn partition(
     problem: Problem<'_>,
     order: &[u16; 512],

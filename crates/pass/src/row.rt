@@ -18,7 +18,7 @@ pub struct Row<'a, 'b> {
 
 // The sums of the parts and, of the cluster at hand, its part, the lowest part of a successor, one more than the highest of a predecessor and its
 // cost; and the bound.
-// stays: the count of parts and 0 say that there is no such neighbour, as in `neighbours::Numbers`, whose entries these are: `better` and `ends` test them once.
+// stays: the count of parts and 0 say that there is no such neighbour, as in `neighbours::Numbers`, whose entries these are.
 #[derive(Clone, Copy)]
 pub struct Visit<'a> {
     pub sums: &'a PartSums,

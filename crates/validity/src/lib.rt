@@ -250,6 +250,7 @@ fn first_repeat<const N: usize>(
 }
 
 // Where the first repeated edge is, and how many were tried; what these leave is marked, where that is wanted. Fewer vertices, fewer words.
+// stays: an `if` for each size, as in `division_table::fill_fixed`.
 fn find_repeat(lists: Fitted<'_>, wanted: bool, left: &mut [u8; 512]) -> Repeated
     ensures found { Found lists.entry.edges.starts.now lists.entry.edges.ends.now result.place result.tried }
     ensures marked { wanted ≡ true → Marked lists.entry.edges.starts.now result.tried left.new }
