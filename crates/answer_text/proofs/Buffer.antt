@@ -79,7 +79,7 @@ module _ (f : Form) (vs buf : List ℕ) {n : ℕ} (e : n ≡ needs f vs) where
   pub line_short : length buf < n → (refusal cause.Room 0 ≡ writing (printed f vs) buf) × (buf ≡ written (printed f vs) buf)
   line_short h = short_of (printed f vs) buf (sym (lt-ltb (length buf) (length (printed f vs)) (omega (arith, needs_are f vs))))
 
-  line_room : n ≤ length buf → length (printed f vs) ≤ length buf
+  pub line_room : n ≤ length buf → length (printed f vs) ≤ length buf
   line_room h = omega (arith, needs_are f vs)
 
   pub line_front : n ≤ length buf → 0 + length (printed f vs) ≤ length buf
@@ -89,9 +89,9 @@ module _ (f : Form) (vs buf : List ℕ) {n : ℕ} (e : n ≡ needs f vs) where
   line_written h p = long_for (printed f vs) buf (sym (le-ltb (length buf) (length (printed f vs)) (line_room h))) p
 
 -- what the lines need fits 64 bits
-pub entry_low : (word : List ℕ) (n s : ℕ) → length word ≤ 16 → n < 2 ^ 64 → s < 2 ^ 64 → needs (entry_form word) (n ∷ s ∷ []) < 2 ^ 64
+pub entry_needs : (word : List ℕ) (n s : ℕ) → length word ≤ 16 → n < 2 ^ 64 → s < 2 ^ 64 → needs (entry_form word) (n ∷ s ∷ []) < 2 ^ 64
 unfolding needs needs_fields
-entry_low word n s h a b = omega (arith, decimal_short n a, decimal_short s b)
+entry_needs word n s h a b = omega (arith, decimal_short n a, decimal_short s b)
 
 pub split_low : (a b c d : ℕ) → a < 2 ^ 64 → b < 2 ^ 64 → c < 2 ^ 64 → d < 2 ^ 64 → needs split_form (a ∷ b ∷ c ∷ d ∷ []) < 2 ^ 64
 unfolding needs needs_fields

@@ -15,7 +15,7 @@ use Rattle.line_forms.specs.Lines.{lines_of, in_order, of_form, column, Ran}
 use Rattle.line_forms.specs.Read.{Got, got, nope, read_form, if_numbered}
 use Rattle.line_forms.specs.Run.{Reads}
 use Rattle.line_forms.proofs.Form.{fits_cons, read_sound}
-use Rattle.line_forms.proofs.Lines.{form_reads, numbered_reads, lines_none, lines_left, length-column}
+use Rattle.line_forms.proofs.Lines.{form_reads, numbered_reads, if_numbered_lem, lines_none, lines_left, length-column}
 use Rattle.answer_text.specs.Forms.{split_form, entry_form, block_word}
 use Rattle.answer_text.specs.Tables.{Saved, saved, bad_line, entry_rows, saved_after, saved_lines, saved_in, table_answer, table_written}
 use Rattle.validity.specs.Cause.{refusal, told as answered, Passed}
@@ -46,6 +46,12 @@ module _ (t : List ℕ) (i n : ℕ) where
 
     pub entry_found : get_or vs 0 0 ≡ n → got vs j ≡ if_numbered n (read_form (entry_form block_word) t i)
     entry_found h = rw (e, eq-eqb _ _ h)
+
+-- the entries are 16-bit numbers
+pub entry_low : (t : List ℕ) (i n : ℕ) {b s j : ℕ} → if_numbered n (read_form (entry_form block_word) t i) ≡ got (b ∷ s ∷ []) j → s ≤ 65535
+entry_low t i n {b} {s} {j} e =
+    let x = if_numbered_lem n (read_form (entry_form block_word) t i) (b ∷ s ∷ []) j e in
+    (fits_cons _ _ s [] (fits_cons _ _ b (s ∷ []) (read_sound (entry_form block_word) entry_clear t i (b ∷ s ∷ []) j x.0).1).1).0
 
 -- ---------------------------------------------------------------- the whole table
 fits_length : (fs : List Field) (vs : List ℕ) → fits fs vs ≡ true → length vs ≡ length fs

@@ -50,9 +50,12 @@ pub digit_outside : (b : ℕ) (r : Bool) → r ≡ is_ascii_digit b → r ≡ fa
 digit_outside b r e h = search (rules, arith)
 
 module _ (most v i : ℕ) (t : List ℕ) (r : Number) (e : more_of most v i (drop i t) ≡ r) where
-  pub more_end : i ≡ length t → Is v (length t) ≡ r
+  pub more_end : length t ≤ i → Is v i ≡ r
   unfolding more_of
-  more_end h = rw (left_none t i (omega arith), h) at e
+  more_end h = rw (left_none t i h) at e
+
+  pub more_whole : i ≡ length t → Is v (length t) ≡ r
+  more_whole h = rw (← h) (more_end (omega arith))
 
   module _ (h : i < length t) where
     pub more_stop : (d : Bool) → d ≡ is_ascii_digit (get_or t i 0) → d ≡ false → Is v i ≡ r

@@ -274,6 +274,11 @@ pub starts_end : (g : ℕ) (out : ℕ → ℕ → ℕ) (cuts : List ℕ) (n i y 
 unfolding starts_by
 starts_end g out cuts n i y l = let q : n - i ≡ 0 = omega arith in rw q
 
+pub length_starts : (g : ℕ) (out : ℕ → ℕ → ℕ) (cuts : List ℕ) (j y : ℕ) → length (starts_by g out cuts j y) ≡ j
+unfolding starts_by
+length_starts g out cuts zero y = refl
+length_starts g out cuts (suc j) y = ap suc (length_starts g out cuts j (next_by g out cuts j y))
+
 -- the search for an interval
 interval_prefix : (d : List ℕ) (p : ℕ) → position_or_len (ltb p) d ≡ interval_of d p
 unfolding interval_of

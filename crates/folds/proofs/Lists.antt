@@ -7,8 +7,8 @@ use native.Mathlib.Nat.{suc-mul, mul-le-mul_right, not-suc-le-zero}
 use native.Mathlib.Numerals.{add-one}
 use native.Mathlib.Omega.{arith}
 use lib.Dec.{eqb}
-use lib.ListN.{length, get_or, set, drop, length-append, get_or-append, length-replicate}
-use lib.Seq.{drop-cons, get_or-set_same, get_or-set_other, get_or_at, ext_get_or}
+use lib.ListN.{length, get_or, set, take, drop, length-append, get_or-append, length-replicate}
+use lib.Seq.{drop-cons, take-suc, get_or-set_same, get_or-set_other, get_or_at, ext_get_or}
 use borrow.Author.Tests.{eq-eqb, ne_eqb}
 use Rattle.folds.specs.Fold.{when, list_to, zeros}
 use Rattle.folds.proofs.Cases.{either, eq_or_ne, last_or}
@@ -26,6 +26,11 @@ get_d_list_to (suc n) f v l =
   where
     here : v ≡ n → get_or (list_to n f ++ (f n ∷ [])) v 0 ≡ f v
     here e = rw e (get_or_at (list_to n f) (f n) [] 0 n (length-list_to n f))
+
+pub list_to_get_d : (n : ℕ) (l : List ℕ) → n ≤ length l → list_to n (λ k. get_or l k 0) ≡ take n l
+unfolding list_to
+list_to_get_d zero l h = refl
+list_to_get_d (suc n) l h = rw (list_to_get_d n l (omega arith)) (sym (take-suc l n 0 h))
 
 pub list_to_ext : (n : ℕ) (f g : ℕ → ℕ) → ((k : ℕ) → k < n → f k ≡ g k) → list_to n f ≡ list_to n g
 unfolding list_to
@@ -72,6 +77,14 @@ set_sub d i x v l h = either (eq_or_ne v i) here other
 
     other : (v ≡ i → ⊥) → get_or (set d i (get_or d i 0 - x)) v 0 + when (eqb i v) x ≡ get_or d v 0
     other n = rw (get_or-set_other d i v (get_or d i 0 - x) 0 n, ne_eqb i v (λ e. n (sym e))) (omega arith)
+
+-- entries at most b: after a store of what is at most b', at most b'
+pub set_at_most : (d : List ℕ) (i x b b' : ℕ) → b ≤ b' → x ≤ b' → ((v : ℕ) → get_or d v 0 ≤ b) → (v : ℕ) → get_or (set d i x) v 0 ≤ b'
+set_at_most [] i x b b' l g h v = omega (arith, h v)
+set_at_most (y ∷ d) zero x b b' l g h zero = g
+set_at_most (y ∷ d) zero x b b' l g h (suc v) = omega (arith, h (suc v))
+set_at_most (y ∷ d) (suc i) x b b' l g h zero = omega (arith, h 0)
+set_at_most (y ∷ d) (suc i) x b b' l g h (suc v) = set_at_most d i x b b' l g (λ k. h (suc k)) v
 
 -- places in a table of k rows of n
 pub row_in : (r k n : ℕ) → r < k → r * n + n ≤ k * n

@@ -25,3 +25,9 @@ unfolding turns
 turns_skip f s j zero l z = let q : j ≡ 0 = omega arith in rw q
 turns_skip f s j (suc h) l z =
     ⊎_elim (λ q. rw q) (λ q. z h (omega arith) (omega arith) _ ∙ turns_skip f s j h (omega arith) (λ i li gi. z i li (omega arith))) (eq-or-lt_of_le l)
+
+-- what each turn keeps
+pub turns_keep : {S : Type 0} (P : S → Type 0) (n : ℕ) (f : ℕ → S → S) (s : S) → P s → ((i : ℕ) (t : S) → i < n → P t → P (f i t)) → P (turns n f s)
+unfolding turns
+turns_keep P zero f s b h = b
+turns_keep P (suc n) f s b h = h n (turns n f s) (omega arith) (turns_keep P n f s b (λ i t l. h i t (omega arith)))

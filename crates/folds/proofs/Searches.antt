@@ -177,3 +177,8 @@ max_at (suc n) f = go (max_at n f) (eq_or_ne (max (max_to n f) (f n)) (f n))
 
 pub max_le : (n b : ℕ) (f : ℕ → ℕ) → ((k : ℕ) → k < n → f k ≤ b) → max_to n f ≤ b
 max_le n b f h = either (max_at n f) (λ z. omega arith) (λ w. omega (arith, h w.0 w.1))
+
+pub max_ext : (n : ℕ) (f g : ℕ → ℕ) → ((k : ℕ) → k < n → f k ≡ g k) → max_to n f ≡ max_to n g
+unfolding max_to
+max_ext zero f g h = refl
+max_ext (suc n) f g h = rw (max_ext n f g (λ k l. h k (omega arith)), h n (omega arith))

@@ -11,7 +11,7 @@ use Rattle.folds.specs.Fold.{list_to}
 use Rattle.folds.proofs.Cases.{both, both_i, not_yes, by, when_le}
 use Rattle.folds.proofs.Searches.{any_i, any_e}
 use Rattle.folds.proofs.Lists.{get_d_past, get_d_list_to, length-list_to}
-use Rattle.graph.specs.Graph.{Graph, vertices, via, identity, Arcs, arcs, joining, seen, edge, Edge, cost_in, through, Formed, RowOf, Inside}
+use Rattle.graph.specs.Graph.{Graph, vertices, via, identity, Arcs, arcs, joining, seen, edge, Edge, crossing, cost_in, through, Formed, RowOf, Inside}
 
 module _ (A : Arcs) where
   -- edge j, read as an edge between clusters, and back
@@ -81,6 +81,11 @@ through_at row table v h = get_d_list_to (length row) (λ i. get_or table (get_o
 pub length-through : (row table : List ℕ) → length (through row table) ≡ length row
 unfolding through
 length-through row table = length-list_to _ _
+
+-- bounds of the sums that code forms
+pub crossing_le : (A : Arcs) (widths : List ℕ) (b : ℕ) → ((k : ℕ) → get_or widths k 0 ≤ b) → (j : ℕ) → crossing A widths j ≤ b
+unfolding crossing
+crossing_le A widths b h j = omega (arith, h j, when_le (not (eqb (A.from j) (A.to j))) (get_or widths j 0))
 
 pub cost_in_le : (costs parts : List ℕ) (u b : ℕ) → ((k : ℕ) → get_or costs k 0 ≤ b) → (v : ℕ) → cost_in costs parts u v ≤ b
 unfolding cost_in

@@ -9,13 +9,13 @@ use native.Mathlib.Omega.{arith}
 use borrow.Author.Tests.{eq-eqb, ne_eqb}
 use lib.ListN.{length, get_or, set, replicate, get_or-replicate, length-set}
 use lib.Seq.{get_or-set_same, get_or-set_other}
-use Rattle.folds.specs.Fold.{sum_to, first_to, turns}
+use Rattle.folds.specs.Fold.{sum_to, first_to, turns, Read}
 use Rattle.folds.proofs.Cases.{either, eq_or_ne}
 use Rattle.folds.proofs.Sums.{sum_to_zero, sum_to_turn, sum_to_skip}
 use Rattle.folds.proofs.Searches.{first_to_zero, first_to_more, first_to_skip}
 use Rattle.folds.proofs.Loops.{turns_zero, turns_turn, turns_skip}
 use Rattle.graph.specs.Graph.{Arcs}
-use Rattle.graph.specs.Links.{Hop, Linked, leave}
+use Rattle.graph.specs.Links.{Hop, Linked, Ends, Joins, Cluster, leave}
 
 -- the links of the edges from j on
 pub record Made (key : ℕ → ℕ) (m j : ℕ) (head next : List ℕ) : Type 0 where
@@ -80,6 +80,13 @@ module _ (key : ℕ → ℕ) (m : ℕ) where
 
   pub made_end : {j : ℕ} {head next : List ℕ} → j ≡ 0 → Made key m j head next → Linked key m head next
   made_end {j} e w = record { tall = w.tall; long = w.long; heads = λ a l. rw e at (w.heads a (omega arith)); nexts = λ i l. w.nexts i (omega arith) l }
+
+-- what two reads give: the cluster of an edge's end
+pub end_in : {row ends : List ℕ} {j v b : ℕ} → Ends row ends → j < length ends → Read ends j b v → v < length row
+end_in p l r = rw r.is (p.in_row _ l)
+
+pub cluster_is : {row ends : List ℕ} {j v a b b' : ℕ} → Ends row ends → j < length ends → Read ends j b v → Read row v b' a → Cluster row ends j a
+cluster_is {row} p l r q = record { is = q.is ∙ ap (λ (x : ℕ). get_or row x 0) r.is; low = rw q.is (p.low _ (end_in p l r)) }
 
 -- edges at which f is not 0 have the key a
 abbrev pub Only : (ℕ → ℕ) → ℕ → (ℕ → ℕ) → Type 0
@@ -147,6 +154,10 @@ module _ {key : ℕ → ℕ} {m : ℕ} {head next : List ℕ} (L : Linked key m 
   first_next a j p o n l e h =
       let k = rw (n.at l) at (L.nexts j l) in
       first_to_skip p (j + 1) (get_or next j 0) k.past (λ i li gi. o i (λ q. k.skips i li gi q)) (first_to_more j p e h)
+
+-- an edge has both ends
+pub joined_ends : {row starts ends : List ℕ} {j : ℕ} → Joins row starts ends → j < length starts → j < length ends
+joined_ends p l = omega (arith, p.same)
 
 -- edges that leave a cluster
 module _ (A : Arcs) (j : ℕ) {u : ℕ} where

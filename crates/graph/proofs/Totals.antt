@@ -6,7 +6,7 @@ use native.Mathlib.Numerals.{add-one}
 use native.Mathlib.Omega.{arith}
 use lib.Dec.{eqb}
 use lib.ListN.{length, get_or, set, length-set, replicate, get_or-replicate}
-use Rattle.folds.specs.Fold.{when, max_to, most_cost}
+use Rattle.folds.specs.Fold.{when, max_to, Read, most_cost}
 use Rattle.folds.proofs.Sums.{sum_to_zero, sum_to_step, sum_to_le}
 use Rattle.folds.proofs.Lists.{set_add}
 use Rattle.graph.specs.Graph.{cost_in, part_cost}
@@ -40,6 +40,10 @@ module _ (keys costs : List ℕ) where
 
 pub zero_sums : (n u : ℕ) → u < n → get_or {A = ℕ} (replicate n 0) u 0 ≡ 0
 zero_sums n u l = get_or-replicate {A = ℕ} n u 0 0 l
+
+-- what a read of a key gives
+pub keyed_in : {keys costs : List ℕ} {g i b c : ℕ} → Keyed keys costs g → i < length costs → Read keys i b c → c < g
+keyed_in k l r = rw r.is (k.low _ l)
 
 -- the number of clusters
 pub count_none : (f : ℕ → ℕ) → 0 ≡ max_to 0 f

@@ -41,6 +41,12 @@ wire_reads t = form_reads wire_form wire_clear t
 pub block_low : (t : List ℕ) (i : ℕ) {v j : ℕ} → read_form block_form t i ≡ got (v ∷ []) j → v ≤ 65535
 block_low t i {v} {j} e = (fits_cons _ _ v [] (read_sound block_form block_clear t i (v ∷ []) j e).1).0
 
+pub wire_low : (t : List ℕ) (i : ℕ) {a b c j : ℕ} → read_form wire_form t i ≡ got (a ∷ b ∷ c ∷ []) j → (a ≤ 65535) × (b ≤ 65535) × (c ≤ 65535)
+wire_low t i {a} {b} {c} {j} e =
+    let x = fits_cons _ _ a (b ∷ c ∷ []) (read_sound wire_form wire_clear t i (a ∷ b ∷ c ∷ []) j e).1 in
+    let y = fits_cons _ _ b (c ∷ []) x.1 in
+    (x.0, y.0, (fits_cons _ _ c [] y.1).0)
+
 -- the form of the lines that a letter stands for, and the most of them
 pub letter_form : (letter : ℕ) → form_of (kind_of letter) ≡ pick (eqb letter 107) kit_form (pick (eqb letter 98) block_form wire_form)
 letter_form letter = by (eqb letter 107) (λ e. rw e) (λ e. by (eqb letter 98) (λ f. rw (e, f)) (λ f. rw (e, f)))

@@ -80,7 +80,7 @@ over_at : (all l : List ℕ) (i : ℕ) → i < length all → get_or (over all l
 unfolding over
 over_at all l i h = get_or-append all _ 0 i h
 
-ordering : (A : Arcs) (g : ℕ) (old : List ℕ) {r : ℕ} {new : List ℕ} → g ≤ 512 → r ≡ length (order_of A g) → new ≡ over (order_of A g) old → Ordering A g new r
+pub ordering : (A : Arcs) (g : ℕ) (old : List ℕ) {r : ℕ} {new : List ℕ} → g ≤ 512 → r ≡ length (order_of A g) → new ≡ over (order_of A g) old → Ordering A g new r
 ordering A g old lg e q = record { few = omega (arith, order_few A g); count = e; is = λ i l. ap (λ (l : List ℕ). get_or l i 0) q ∙ over_at (order_of A g) old i (omega arith) }
 
 -- the front of what it was written over

@@ -367,10 +367,14 @@ module _ (S : PartSums) (own cost bound low : ℕ) (f : ℕ → ℕ) (high : ℕ
   ends_tried l q = rw (lt-ltb low S.count l, ← e) q
 
 -- no part from high on evens and is allowed, up to where the search goes on
-pub none_first : (S : PartSums) (own cost bound high end : ℕ) → NoneEvens S own cost bound high (min high end)
-none_first S own cost bound high end = record { at = λ u g l. absurd (omega arith) }
+pub none_yet : (S : PartSums) (own cost bound high end : ℕ) → NoneEvens S own cost bound high (min high end)
+none_yet S own cost bound high end = record { at = λ u g l. absurd (omega arith) }
 
 module _ {S : PartSums} {own cost bound high end : ℕ} where
+  pub none_first : {t : ℕ} → FirstEven S own cost high end t → NoneEvens S own cost bound high (min t end)
+  unfolding evenly
+  none_first F = record { at = λ u g l. rw (F.none u g (omega arith) (omega arith)) }
+
   none_below : {first t : ℕ} → NoneEvens S own cost bound high (min first end) → t ≤ end → FirstEven S own cost first end t → NoneEvens S own cost bound high t
   unfolding evenly
   none_below {first} N lt F =

@@ -55,9 +55,9 @@ pub struct Checked {
 // Where the first repeated edge is, or how many edges there are, and how many the search tried.
 // stays: a number for none: with an `Option` in it this is answered in memory, and the check took longer (tried: a twentieth in the mean, a tenth at some shapes).
 #[derive(Clone, Copy)]
-struct Repeated {
-    place: usize,
-    tried: usize,
+pub struct Repeated {
+    pub place: usize,
+    pub tried: usize,
 }
 
 // The edges of lists that passed checks 1 to 6, between n vertices.

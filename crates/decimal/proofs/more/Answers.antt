@@ -1,5 +1,5 @@
 use Rattle.std.proofs.Common.{arith}
-use Rattle.decimal.proofs.Reading.{digit_within, more_end, more_stop, more_zero, more_over, more_on}
+use Rattle.decimal.proofs.Reading.{digit_within, more_whole, more_stop, more_zero, more_over, more_on}
 use Rattle.decimal.proofs.more.Goals as goal
 
 pub returns-then-not-is_ascii_digit : goal.returns-then-not-is_ascii_digit
@@ -21,4 +21,4 @@ loop-i-preserved c =
     (omega arith, more_on _ _ _ _ _ c.loop-i.invariant.1 c.loop-i-test.true d.0 d.1 c.if-v-eq0.false _ c.from.ensures c.if-w-most.false)
 
 pub returns : goal.returns
-returns c = more_end _ _ _ _ _ c.loop-i.invariant.1 (omega arith)
+returns c = more_whole _ _ _ _ _ c.loop-i.invariant.1 (omega arith)
