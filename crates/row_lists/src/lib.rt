@@ -21,11 +21,14 @@ pub struct Renaming<'a> {
 }
 
 // Writes src into dst, from a on.
+// stays: a loop, since std's `copy_from_slice` needs `memmove`, which the archive for C would have to be given.
 pub fn copy<T: Copy>(src: &[T], dst: &mut [T], a: usize)
     requires { a + length src.now ≤ length dst.old }
     ensures { dst.new ≡ take a dst.old ++ (src.now ++ drop (a + length src.now) dst.old) }
 {
-    dst[a..a + src.len()].copy_from_slice(src);
+    for i in 0..src.len() {
+        dst[a + i] = src[i];
+    }
 }
 
 // Numbers of 16 bits, in the front of dst.
