@@ -29,15 +29,6 @@ unfolding cells over
 cells_place zero cause place l = absurd (omega arith)
 cells_place (suc n) cause place l = refl
 
--- the count of a check, past its place
-pub check_cells : (c : Checked) (told : Result (List ℕ) Refusal) → told ≡ result_map_both (λ _. 0 ∷ 0 ∷ []) (λ e. e) c.verdict → set (cells 2 (answer_in told)) 1 c.tried ≡ cells 2 (answer_of c)
-unfolding cells over
-check_cells c told e = rw e (by_verdict c.verdict)
-  where
-    by_verdict : (v : Verdict) → set (cells 2 (answer_in (result_map_both (λ _. 0 ∷ 0 ∷ []) (λ e. e) v))) 1 c.tried ≡ cells 2 (answer_of (record { verdict = v; tried = c.tried }))
-    by_verdict (Ok tt) = refl
-    by_verdict (Err r) = refl
-
 -- what `map` makes of an answer, by what its closure computes
 pub mapped : {A B E : Type 0} (f : A → B) (Says : A → B → Type 0) (v : Result A E) (r : Result B E) → MatchResult v (λ x. IsOkAnd r (Says x)) (λ e. r ≡ Err e)
     → ((x : A) (y : B) → Says x y → y ≡ f x) → r ≡ result_map_both f (λ e. e) v

@@ -14,7 +14,7 @@ ghost use Rattle.hatchraisin.specs.Told.{cells, answer_in};
 use graph::{Lists, Problem};
 use kit_text::Figures;
 use partition::Summary;
-use validity::Refusal;
+use validity::{Checked, Refusal};
 
 // A kit with its stage count and its limit, as one value.
 fn kit<'x>(
@@ -52,6 +52,25 @@ fn tell<const N: usize>(told: Result<[usize; N], Refusal>, answer: &mut [usize; 
         Err(refusal) => {
             answer.fill(0);
             answer[0] = refusal.place;
+            refusal.cause.number()
+        }
+    }
+}
+
+// The place and the count of a check into the cells; its number.
+// stays: beside `tell`: a count goes with a refusal too, and must-fail/count_as_place changes a value alone.
+#[tactic(auto, unfolding(crate::specs::Told::cells, folds::specs::Fold::over))]
+fn tell_check(told: Checked, answer: &mut [usize; 2]) -> u32
+    ensures value { result ≡ (drawn.answer_of told).number }
+    ensures answer_after { answer.new ≡ cells 2 (drawn.answer_of told) }
+{
+    match told.verdict {
+        Ok(()) => {
+            *answer = [0, told.tried];
+            0
+        }
+        Err(refusal) => {
+            *answer = [refusal.place, told.tried];
             refusal.cause.number()
         }
     }
@@ -124,12 +143,7 @@ pub extern "C" fn hatch_check<'x>(
     ensures answer_after { answer.new ≡ cells 2 (drawn.answer_of (drawn.check_of (graph_of costs.now starts.now ends.now widths.now) k bound)) }
 {
     let checked = validity::check_kit(kit(costs, starts, ends, widths, k, bound));
-    let passed = |_| -> [usize; 2]
-        ensures { result ≡ 0 ∷ 0 ∷ [] }
-    { [0, 0] };
-    let number = tell(checked.verdict.map(passed), answer);
-    answer[1] = checked.tried;
-    number
+    tell_check(checked, answer)
 }
 
 // Document 01, the kit text. Answers the blocks, the wires, the stage count and the limit; or the place.

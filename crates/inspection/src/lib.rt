@@ -107,7 +107,11 @@ fn check_table(problem: Problem<'_>, parts: &[u16], order: &mut [u16]) -> Result
     graph::sum_costs(parts, lists.costs, &mut sums);
     let sums = &sums[..k];
     Cause::Empty.refuse_at(empty_part(sums))?;
-    Cause::Over.refuse_at(over_part(sums, bound))?;
+    // stays: a `match`, so that the place is a value here, which must-fail/place_off changes alone.
+    match over_part(sums, bound) {
+        Some(over) => return Err(Cause::Over.at(over)),
+        None => (),
+    }
     finish(lists, parts, k, order)
 }
 

@@ -101,7 +101,11 @@ fn split_within(
         next: [0; 1024],
     };
     let checked = validity::check(most, problem, room, &mut order, &mut levels, &mut links);
-    checked.verdict?;
+    // stays: a `match` for `?`, so that the place is a value here, which must-fail/place_lost changes alone.
+    match checked.verdict {
+        Ok(()) => (),
+        Err(refusal) => return Err(refusal.cause.at(refusal.place)),
+    }
     let inner = partition(problem, &order, &mut levels, &mut links, table, rows);
     inner.ok_or(Cause::Uncut.at(0))
 }

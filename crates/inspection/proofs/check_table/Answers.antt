@@ -1,9 +1,12 @@
 -- Checks 10 to 12: each refuses at its place, or passes on; sums stand for parts since costs are above 0.
-use Rattle.std.proofs.Common.{rules, refl}
+use Rattle.std.proofs.Common.{rules, refl, ap, ◌∙◌}
+use mathlib.Core.Path.{sym}
+use Rattle.std.specs.Prelude.{Err}
 use Rattle.std.proofs.lemmas.Result.{err_from_is_err_and}
 use Rattle.graph.proofs.Totals.{zero_sums}
 use Rattle.validity.specs.Check.{refuse_at}
-use Rattle.validity.proofs.Checks.{no_fault, hands_on, refuses_here}
+use Rattle.validity.proofs.Checks.{no_fault, hands_on, refuses_here, at_some, at_none}
+use Rattle.validity.specs.declared.Cause.TheVariants.{Over}
 use Rattle.inspection.specs.Table.{table_of}
 use Rattle.inspection.proofs.Tables.{entry_at, entries_left, empty_at, over_at, table_keyed, table_joins, table_inside}
 use Rattle.inspection.proofs.Between.{judged_refused, judged_as}
@@ -31,14 +34,13 @@ returns-in_err-refuse_at-2 c =
     let i = c.refuse_at-2.ensures _ _ (empty_at c.requires c.sum_costs.ensures c.empty_part.ensures) in
     judged_refused (rw p.2 at p.1) (search (rules, hands_on, refuses_here)) refl
 
-pub returns-in_err-refuse_at-3 : goal.returns-in_err-refuse_at-3
+pub returns-in-Some : goal.returns-in-Some
 unfolding table_of refuse_at
-returns-in_err-refuse_at-3 c =
-    let p = err_from_is_err_and c.from_residual-in_err-refuse_at-3.result c.from_residual-in_err-refuse_at-3.ensures.1 in
+returns-in-Some c =
     let h = c.refuse_at.ensures _ _ (entry_at c.requires c.bad_entry.ensures) in
     let i = c.refuse_at-2.ensures _ _ (empty_at c.requires c.sum_costs.ensures c.empty_part.ensures) in
-    let j = c.refuse_at-3.ensures _ _ (over_at c.requires c.sum_costs.ensures c.args.problem.bound c.over_part.ensures) in
-    judged_refused (rw p.2 at p.1) (search (rules, hands_on, refuses_here)) refl
+    let j = sym c.in-Some.is ∙ over_at c.requires c.sum_costs.ensures c.args.problem.bound c.over_part.ensures in
+    judged_refused (ap Err c.at.ensures) (hands_on _ _ refl h c.in_ok-refuse_at.was (hands_on _ _ refl i c.in_ok-refuse_at-2.was (at_some Over _ _ _ j))) refl
 
 pub finish-requires : goal.finish-requires
 unfolding refuse_at
@@ -55,5 +57,5 @@ unfolding table_of refuse_at
 returns c =
     let h = c.refuse_at.ensures _ _ (entry_at c.requires c.bad_entry.ensures) in
     let i = c.refuse_at-2.ensures _ _ (empty_at c.requires c.sum_costs.ensures c.empty_part.ensures) in
-    let j = c.refuse_at-3.ensures _ _ (over_at c.requires c.sum_costs.ensures c.args.problem.bound c.over_part.ensures) in
-    judged_as (hands_on _ _ refl h c.in_ok-refuse_at.was (hands_on _ _ refl i c.in_ok-refuse_at-2.was (hands_on _ _ refl j c.in_ok-refuse_at-3.was refl))) c.finish.ensures
+    let j = sym c.in-None.is ∙ over_at c.requires c.sum_costs.ensures c.args.problem.bound c.over_part.ensures in
+    judged_as (hands_on _ _ refl h c.in_ok-refuse_at.was (hands_on _ _ refl i c.in_ok-refuse_at-2.was (at_none Over _ _ j refl))) c.finish.ensures
