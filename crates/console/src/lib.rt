@@ -24,14 +24,14 @@ pub fn has_argument(env: &impl Env, count: usize) -> bool {
 // Where a program's answers go, and its words, which begin with its name. Words that standard error does not take are lost:
 // there is nowhere else to say them.
 #[derive(Clone, Copy)]
-pub struct Console {
-    program: &'static str,
-    answers: Stdout,
-    words: Stderr,
+pub struct Console<'a> {
+    pub program: &'a [u8],
+    pub answers: Stdout,
+    pub words: Stderr,
 }
 
-impl Console {
-    pub fn of(rt: &HostRuntime, program: &'static str) -> Console {
+impl<'a> Console<'a> {
+    pub fn of(rt: &HostRuntime, program: &'a [u8]) -> Console<'a> {
         Console {
             program,
             answers: rt.stdout(),
@@ -39,23 +39,29 @@ impl Console {
         }
     }
 
-    pub fn say(self, words: &str) {
-        let _ = eprint!(self.words; "{words}");
+    // Words, and the program's name, need not be text.
+    pub fn say(self, words: &[u8]) {
+        let _ = Print::write_all(&self.words, words);
     }
 
     pub fn explain(self, reason: impl fmt::Display + Drop) {
-        let _ = eprintln!(self.words; "{}: {reason}", self.program);
+        self.say(self.program);
+        let _ = eprintln!(self.words; ": {reason}");
     }
 
     // What failed, and why.
-    pub fn fail(self, what: &str, why: impl fmt::Display + Drop) {
-        let _ = eprintln!(self.words; "{}: {what}: {why}", self.program);
+    pub fn fail(self, what: &[u8], why: impl fmt::Display + Drop) {
+        self.say(self.program);
+        self.say(b": ");
+        self.say(what);
+        let _ = eprintln!(self.words; ": {why}");
     }
 
     // A reason that has to do with a file. The file's name goes out as it came in, which need not be text.
     pub fn explain_file(self, what: &str, name: &[u8], reason: impl fmt::Display + Drop) {
-        let _ = eprint!(self.words; "{}: {what}", self.program);
-        let _ = Print::write_all(&self.words, name);
+        self.say(self.program);
+        let _ = eprint!(self.words; ": {what}");
+        self.say(name);
         let _ = eprintln!(self.words; ": {reason}");
     }
 
@@ -66,15 +72,19 @@ impl Console {
             return;
         };
         if let Err(why) = Print::write_all(&self.answers, front(buf, n)) {
-            self.fail("the answer cannot be written", Plain(why));
+            self.fail(b"the answer cannot be written", Plain(why));
         }
     }
 
-    pub fn answer_refusal(self, refusal: Refusal) {
+    // A refusal by its number, which may be any.
+    pub fn answer_number(self, number: usize, place: usize) {
         let mut buf = [0u8; 64];
-        let number = refusal.cause.number() as usize;
-        let written = answer_text::write_refusal(&mut buf, number, refusal.place);
+        let written = answer_text::write_refusal(&mut buf, number, place);
         self.answer(written, &buf);
+    }
+
+    pub fn answer_refusal(self, refusal: Refusal) {
+        self.answer_number(refusal.cause.number() as usize, refusal.place);
     }
 
     pub fn refuse(self, refusal: Refusal, reason: impl fmt::Display + Drop) {

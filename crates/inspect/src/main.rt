@@ -15,7 +15,7 @@ use std::rt::{Env, Files};
 use std::{fmt, io};
 use validity::Cause;
 
-fn pass(console: Console, found: u32, saved: u32, order: &[u16]) {
+fn pass(console: Console<'_>, found: u32, saved: u32, order: &[u16]) {
     let mut buf = [0u8; 1024];
     let written = answer_text::write_order(&mut buf, found as usize, order);
     console.answer(written, &buf);
@@ -24,7 +24,7 @@ fn pass(console: Console, found: u32, saved: u32, order: &[u16]) {
     }
 }
 
-fn inspect(console: Console, kit: Problem<'_>, parts: &[u16], saved: u32) {
+fn inspect(console: Console<'_>, kit: Problem<'_>, parts: &[u16], saved: u32) {
     let mut order = [0u16; 16];
     match inspection::inspect(kit, parts, &mut order) {
         Ok(found) => pass(console, found, saved, front(&order, kit.k)),
@@ -47,7 +47,7 @@ struct Named<'a> {
 }
 
 // The saved table, once the kit has been read. A text that is not of its form is 15 at its line, as a kit text is.
-fn inspect_saved(console: Console, kit: Problem<'_>, table: Named<'_>) {
+fn inspect_saved(console: Console<'_>, kit: Problem<'_>, table: Named<'_>) {
     let mut parts = [0u16; 512];
     match answer_text::tables::read_table(table.text, &mut parts) {
         Ok(saved) => inspect(console, kit, front(&parts, saved.entries), saved.cut),
@@ -67,7 +67,7 @@ fn inspect_saved(console: Console, kit: Problem<'_>, table: Named<'_>) {
 }
 
 // The kit first: a kit text that is refused leaves the table unread.
-fn inspect_texts(console: Console, text: &[u8], table: Named<'_>) {
+fn inspect_texts(console: Console<'_>, text: &[u8], table: Named<'_>) {
     let mut space = KitSpace::new();
     if let Some(kit) = console.kit_of(&mut space, text) {
         inspect_saved(console, kit, table);
@@ -109,7 +109,7 @@ fn read_file<'n, 'b>(
 
 fn run<'n>(
     rt: &impl Files,
-    console: Console,
+    console: Console<'_>,
     first: &'n [u8],
     second: &'n [u8],
 ) -> Result<(), FileError<'n>> {
@@ -167,10 +167,10 @@ fn run_named(rt: &(impl Env + Files), console: Console) -> Result<(), ArgumentEr
 }
 
 fn main(rt: HostRuntime) {
-    let console = Console::of(&rt, "inspect");
+    let console = Console::of(&rt, b"inspect");
     if !console::has_argument(&rt, 2) || console::has_argument(&rt, 3) {
         console.say(
-            "usage: inspect KITFILE TABLEFILE\nTwo file names are needed: a kit text, and a table as split prints it.\n",
+            b"usage: inspect KITFILE TABLEFILE\nTwo file names are needed: a kit text, and a table as split prints it.\n",
         );
         return;
     }

@@ -8,7 +8,7 @@ use graph::Problem;
 use partition::Summary;
 use reasons::graphs::KitReason;
 
-fn say_split(console: Console, summary: Summary, parts: &[u16]) {
+fn say_split(console: Console<'_>, summary: Summary, parts: &[u16]) {
     let mut buf = [0u8; 16384];
     let Summary {
         cut,
@@ -20,7 +20,7 @@ fn say_split(console: Console, summary: Summary, parts: &[u16]) {
     console.answer(written, &buf);
 }
 
-fn split(console: Console, kit: Problem<'_>) {
+fn split(console: Console<'_>, kit: Problem<'_>) {
     let mut table = [0u16; 512];
     let mut rows = [0u16; 4608];
     match partition::split(kit, &mut table, &mut rows) {
@@ -29,7 +29,7 @@ fn split(console: Console, kit: Problem<'_>) {
     }
 }
 
-fn run(console: Console, text: &[u8]) {
+fn run(console: Console<'_>, text: &[u8]) {
     let mut space = KitSpace::new();
     if let Some(kit) = console.kit_of(&mut space, text) {
         split(console, kit);
@@ -37,16 +37,16 @@ fn run(console: Console, text: &[u8]) {
 }
 
 fn main(rt: HostRuntime) {
-    let console = Console::of(&rt, "split");
+    let console = Console::of(&rt, b"split");
     if console::has_argument(&rt, 1) {
         console.say(
-            "usage: split < KITFILE\nReads a kit text on standard input. Prints the cut, the rounds kept (rungs), the rung that was cut (cutat) and the moves that lowered\nthe cut (moves; those that only even out stages are not counted), then each block's stage.\n",
+            b"usage: split < KITFILE\nReads a kit text on standard input. Prints the cut, the rounds kept (rungs), the rung that was cut (cutat) and the moves that lowered\nthe cut (moves; those that only even out stages are not counted), then each block's stage.\n",
         );
         return;
     }
     let mut space = [0u8; SPACE];
     match console::input::read_all(&mut rt.stdin(), &mut space) {
         Ok(text) => run(console, text),
-        Err(why) => console.fail("standard input cannot be read", Plain(why)),
+        Err(why) => console.fail(b"standard input cannot be read", Plain(why)),
     }
 }
