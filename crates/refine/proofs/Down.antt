@@ -3,11 +3,13 @@ use Prim.Native.Nat.{ℕ, zero, suc, ◌+◌, ◌-◌, ◌≤◌, ◌<◌, ◌^�
 use mathlib.Core.Path.{◌≡◌, refl, sym, ap, subst, ◌∙◌}
 use mathlib.Core.List.{List, ◌++◌}
 use native.Mathlib.Omega.{arith}
-use lib.ListN.{length, take, drop}
+use lib.ListN.{length, get_or, take, drop}
 use Rattle.folds.specs.Fold.{over}
-use Rattle.graph.specs.Graph.{Graph, vertices, cut_of, Proper}
+use Rattle.folds.proofs.Sums.{sum_to_le}
+use Rattle.graph.specs.Graph.{Graph, vertices, edges, seen, crossing, cut, cut_of, Proper}
 use Rattle.graph.specs.Rows.{Hierarchy, rows_in}
 use Rattle.graph.specs.Table.{Good}
+use Rattle.graph.proofs.Edges.{crossing_le}
 use Rattle.refinement.specs.Entries.{state_of, GoodAt}
 use Rattle.refinement.specs.Pass.{Tally, tally_of, refined_on, refined_below, refined}
 use Rattle.refinement.proofs.Entries.{nested, good_down}
@@ -25,6 +27,10 @@ pub record Descent (G : Graph) (k bound : ℕ) (rows : ℕ → List ℕ) (top : 
   pub good : Good G k bound (rows (r - 1)) parts
   pub rest : refined_below G k bound rows r (tally_of parts moves) ≡ R
   pub room : moves + cut_of G parts < 2 ^ 32
+
+pub cut_small : (G : Graph) (parts : List ℕ) → edges G ≤ 1024 → ((j : ℕ) → get_or G.widths j 0 ≤ 65535) → cut_of G parts < 2 ^ 32
+unfolding cut
+cut_small G parts m w = omega (arith, sum_to_le (edges G) 65535 (crossing (seen G parts) G.widths) (crossing_le (seen G parts) G.widths 65535 w))
 
 module _ (G : Graph) (P : Proper G) (k bound : ℕ) (few : k ≤ 16) (rows : ℕ → List ℕ) (top : ℕ) (H : Hierarchy G rows top) where
   pub descent_start : (parts : List ℕ) → Good G k bound (rows top) parts → cut_of G parts < 2 ^ 32
