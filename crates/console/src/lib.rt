@@ -44,6 +44,13 @@ impl<'a> Console<'a> {
         let _ = Print::write_all(&self.words, words);
     }
 
+    // The program's name, and words.
+    pub fn begin(self, words: &[u8]) {
+        self.say(self.program);
+        self.say(b": ");
+        self.say(words);
+    }
+
     pub fn explain(self, reason: impl fmt::Display + Drop) {
         self.say(self.program);
         let _ = eprintln!(self.words; ": {reason}");
@@ -51,16 +58,13 @@ impl<'a> Console<'a> {
 
     // What failed, and why.
     pub fn fail(self, what: &[u8], why: impl fmt::Display + Drop) {
-        self.say(self.program);
-        self.say(b": ");
-        self.say(what);
+        self.begin(what);
         let _ = eprintln!(self.words; ": {why}");
     }
 
     // A reason that has to do with a file. The file's name goes out as it came in, which need not be text.
     pub fn explain_file(self, what: &str, name: &[u8], reason: impl fmt::Display + Drop) {
-        self.say(self.program);
-        let _ = eprint!(self.words; ": {what}");
+        self.begin(what.as_bytes());
         self.say(name);
         let _ = eprintln!(self.words; ": {reason}");
     }
@@ -76,7 +80,7 @@ impl<'a> Console<'a> {
         }
     }
 
-    // A refusal by its number, which may be any.
+    // stays: a refusal by its number, which may be any: who calls this need not have a cause.
     pub fn answer_number(self, number: usize, place: usize) {
         let mut buf = [0u8; 64];
         let written = answer_text::write_refusal(&mut buf, number, place);
